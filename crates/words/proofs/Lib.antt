@@ -1,0 +1,10 @@
+pub mod ClassLaws
+pub mod BalanceLaws
+pub mod ValueLaws
+pub mod ReducedLaws
+pub mod StepLaws
+pub mod ReadLaws
+pub mod MismatchLaws
+pub mod JoinLaws
+pub mod LimitLaws
+pub mod DepthLaws

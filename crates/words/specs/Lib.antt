@@ -1,0 +1,6 @@
+pub mod Tags
+pub mod Balance
+pub mod Binoid
+pub mod Reduced
+pub mod Reader
+pub mod Classes
