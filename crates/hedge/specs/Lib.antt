@@ -1,0 +1,3 @@
+pub mod Schema
+pub mod Relation
+pub mod Operations

@@ -1,0 +1,79 @@
+-- The binoid of relations. Document 01, "Reduced forms": "The empty string has each (X, X), X below Q. Strings in a row compose their
+-- relations. For start a, w, end a: (X, Z) is in it when a rule X, a, Y, Z exists and w's relation has (Y, W) with W ending. These are
+-- the source's binoid operations." Each is a test on pairs first, and then the number of the pairs that pass. K is the width of a row.
+use mathlib.Core.Bool.{Bool, true, false, _&&_, _||_}
+use mathlib.Core.List.{List}
+use Prim.Native.Nat.{ℕ, zero, suc, _+_, _*_, _/_, _%_}
+use lib.Dec.{eqb, ltb}
+use lib.ListN.{length, getD}
+use Rattle.words.specs.Binoid.{Binoid}
+use Rattle.hedge.specs.Schema.{field}
+use Rattle.hedge.specs.Relation.{has}
+
+-- some number below n passes
+unfoldable pub any : ℕ → (ℕ → Bool) → Bool
+any zero f = false
+any (suc n) f = any n f || f n
+
+-- ---- tests on pairs
+
+-- (x, x), x below q
+unfoldable pub same : ℕ → ℕ → ℕ → Bool
+same q x z = eqb x z && ltb x q
+
+-- some y below q has (x, y) on the left and (y, z) on the right
+unfoldable pub linked : ℕ → (ℕ → ℕ → Bool) → (ℕ → ℕ → Bool) → ℕ → ℕ → Bool
+linked q f g x z = any q (λ y. f x y && g y z)
+
+-- (y, t) with t ending
+unfoldable pub ended : List ℕ → (ℕ → ℕ → Bool) → ℕ → Bool
+ended ends f y = any (length ends) (λ j. f y (getD ends j 0))
+
+-- the pair (x, z) alone, where t holds
+unfoldable pub onePair : Bool → ℕ → ℕ → ℕ → ℕ → Bool
+onePair t x z x′ z′ = t && (eqb x x′ && eqb z z′)
+
+-- rule i reads x, a, y, z, and y is ended
+unfoldable pub fires : List ℕ → List ℕ → ℕ → (ℕ → ℕ → Bool) → ℕ → ℕ → ℕ → Bool
+fires rules ends a f i x z =
+    onePair (eqb (field rules i 1) a && ended ends f (field rules i 2)) (field rules i 0) (field rules i 3) x z
+
+-- one of the n first rules does
+unfoldable pub wrapped : List ℕ → List ℕ → ℕ → (ℕ → ℕ → Bool) → ℕ → ℕ → ℕ → Bool
+wrapped rules ends a f n x z = any n (λ i. fires rules ends a f i x z)
+
+-- ---- the number of the pairs that pass
+
+abbrev pub one-if : Bool → ℕ
+one-if true = 1
+one-if false = 0
+
+-- the number below 2 ^ n whose bit k is f k
+unfoldable pub number : ℕ → (ℕ → Bool) → ℕ
+number zero f = 0
+number (suc n) f = number n (λ k. f (suc k)) * 2 + one-if (f 0)
+
+-- bit K·x+z is f x z: of the n lowest bits, and of all
+unfoldable pub lowest : ℕ → ℕ → (ℕ → ℕ → Bool) → ℕ
+lowest K n f = number n (λ k. f (k / K) (k % K))
+
+unfoldable pub relation : ℕ → (ℕ → ℕ → Bool) → ℕ
+relation K f = lowest K (K * K) f
+
+-- ---- the binoid
+
+unfoldable pub unit : ℕ → ℕ → ℕ
+unit K q = relation K (same q)
+
+unfoldable pub compose : ℕ → ℕ → ℕ → ℕ → ℕ
+compose K q r s = relation K (linked q (has K r) (has K s))
+
+unfoldable pub wrap : ℕ → List ℕ → List ℕ → ℕ → ℕ → ℕ
+wrap K rules ends a r = relation K (wrapped rules ends a (has K r) (length rules / 4))
+
+abbrev pub relations : ℕ → ℕ → List ℕ → List ℕ → Binoid
+relations K q rules ends = record { H = ℕ; unit = unit K q; compose = compose K q; wrap = wrap K rules ends }
+
+-- state 0 leads to an ending state
+unfoldable pub accepts : ℕ → List ℕ → ℕ → Bool
+accepts K ends r = ended ends (has K r) 0

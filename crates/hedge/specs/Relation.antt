@@ -1,0 +1,23 @@
+-- The relation of a word as a number. Document 01, "Reduced forms": "The relation of a balanced string w is the set of state pairs
+-- (X, Z) such that X derives w followed by Z. It is a 64-bit number: bit 8·X+Z." The width of a row, 8 there, is K here.
+use mathlib.Core.Path.{_≡_}
+use mathlib.Core.Bool.{Bool, true}
+use mathlib.Core.List.{List}
+use mathlib.Core.Logic.{_↔_}
+use Prim.Native.Nat.{ℕ, _+_, _*_, _/_, _%_, _^_, _<_}
+use lib.Dec.{eqb}
+use Rattle.words.specs.Tags.{Tag}
+use Rattle.hedge.specs.Schema.{Schema, Leads}
+
+-- bit k of a number
+unfoldable pub bit : ℕ → ℕ → Bool
+bit r k = eqb (r / 2 ^ k % 2) 1
+
+-- the pair (x, z) is in the relation r
+unfoldable pub has : ℕ → ℕ → ℕ → ℕ → Bool
+has K r x z = bit r (x * K + z)
+
+-- r is the relation of the word: it has (x, z) exactly when x derives the word followed by z
+pub record RelationOf (K : ℕ) (S : Schema) (w : List Tag) (r : ℕ) : Type 0 where
+  pub small : r < 2 ^ (K * K)
+  pub members : (x z : ℕ) → x < K → z < K → (has K r x z ≡ true) ↔ Leads S x w z

@@ -1,0 +1,53 @@
+-- Schemas and what they derive. Document 01, "Tags, templates, schema": "A schema is a regular hedge grammar in the source's second
+-- form, with Q states. State 0 is its start. A rule X, a, Y, Z reads: X gives start a, Y, end a, Z. An ending state gives the empty
+-- string. A page is valid when it is balanced and state 0 derives it."
+use mathlib.Core.Path.{_≡_}
+use mathlib.Core.List.{List, [], _∷_, _++_}
+use Prim.Native.Nat.{ℕ, _+_, _*_, _/_, _<_}
+use lib.ListN.{length, getD}
+use Rattle.words.specs.Tags.{Tag, start, end}
+use Rattle.words.specs.Balance.{Balanced}
+
+-- the number of states, the rules, and the ending states
+pub record Schema : Type 1 where
+  pub states : ℕ
+  pub Rule : ℕ → ℕ → ℕ → ℕ → Type 0
+  pub Ending : ℕ → Type 0
+
+-- the state X derives the word
+pub data Derives (S : Schema) : ℕ → List Tag → Type 0 where
+  derives-empty : {x : ℕ} → S .Ending x → Derives S x []
+  derives-rule : {x a y z : ℕ} {u v : List Tag} → S .Rule x a y z → Derives S y u → Derives S z v
+      → Derives S x (start a ∷ (u ++ (end a ∷ v)))
+
+-- the state X derives the word followed by the state Z
+pub data Leads (S : Schema) : ℕ → List Tag → ℕ → Type 0 where
+  leads-here : {x : ℕ} → x < S .states → Leads S x [] x
+  leads-rule : {x a y z t : ℕ} {u v : List Tag} → S .Rule x a y z → Derives S y u → Leads S z v t
+      → Leads S x (start a ∷ (u ++ (end a ∷ v))) t
+
+-- "A page is valid when it is balanced and state 0 derives it."
+abbrev pub Valid : Schema → List Tag → Type 0
+Valid S w = Balanced w × Derives S 0 w
+
+-- field j of rule i in a list of bytes, four to a rule: X, a, Y, Z
+unfoldable pub field : List ℕ → ℕ → ℕ → ℕ
+field rules i j = getD rules (i * 4 + j) 0
+
+-- the schema of a list of rules and a list of ending states
+abbrev pub schema : ℕ → List ℕ → List ℕ → Schema
+schema states rules ends =
+    record {
+      states = states;
+      Rule = λ x a y z.
+          (i : ℕ) × (i < length rules / 4) × (field rules i 0 ≡ x) × (field rules i 1 ≡ a) × (field rules i 2 ≡ y) × (field rules i 3 ≡ z);
+      Ending = λ x. (j : ℕ) × (j < length ends) × (getD ends j 0 ≡ x);
+    }
+
+-- the states of the rules, and the ending states, are below q
+abbrev pub RulesBelow : ℕ → List ℕ → Type 0
+RulesBelow q rules =
+    (i : ℕ) → i < length rules / 4 → (field rules i 0 < q) × (field rules i 2 < q) × (field rules i 3 < q)
+
+abbrev pub EndsBelow : ℕ → List ℕ → Type 0
+EndsBelow q ends = (j : ℕ) → j < length ends → getD ends j 0 < q
