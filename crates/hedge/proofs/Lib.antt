@@ -5,3 +5,4 @@ pub mod RelationLaws
 pub mod Relates
 pub mod NumberLaws
 pub mod LoopLaws
+pub mod CoverLaws

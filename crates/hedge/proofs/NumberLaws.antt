@@ -14,16 +14,11 @@ use Rattle.words.specs.Balance.{Balanced}
 use Rattle.words.specs.Binoid.{Laws, Value}
 use Rattle.words.proofs.ValueLaws.{value-balanced, balanced-value, value-good}
 use Rattle.hedge.specs.Schema.{Schema, Derives, Valid, schema, RulesBelow, EndsBelow}
-use Rattle.hedge.specs.Relation.{has, RelationOf}
+use Rattle.hedge.specs.Relation.{has, RelationOf, Within}
 use Rattle.hedge.specs.Operations.{same, linked, wrapped, unit, compose, wrap, relations, accepts}
 use Rattle.hedge.proofs.TestLaws.{ext-true}
 use Rattle.hedge.proofs.RelationLaws.{relation-lt, relation-ext, ended-members, unit-members, compose-members, wrap-members}
 use Rattle.hedge.proofs.Relates.{Relates, relates-laws, value-relation, value-derived}
-
--- no bit past the width, no pair outside the q states
-pub record Within (K q r : ℕ) : Type 0 where
-  pub small : r < 2 ^ (K * K)
-  pub states : (x z : ℕ) → x < K → z < K → has K r x z ≡ true → (x < q) × (z < q)
 
 -- the pair (x, z) is in the relation r
 abbrev pub Member : ℕ → ℕ → ℕ → ℕ → Type 0

@@ -4,6 +4,7 @@
 use mathlib.Core.Bool.{Bool, true, false, _&&_, _||_}
 use mathlib.Core.List.{List}
 use Prim.Native.Nat.{ℕ, zero, suc, _+_, _*_, _/_, _%_}
+use lib.Bits.{bitOr}
 use lib.Dec.{eqb, ltb}
 use lib.ListN.{length, getD}
 use Rattle.words.specs.Binoid.{Binoid}
@@ -73,6 +74,16 @@ wrap K rules ends a r = relation K (wrapped rules ends a (has K r) (length rules
 
 abbrev pub relations : ℕ → ℕ → List ℕ → List ℕ → Binoid
 relations K q rules ends = record { H = ℕ; unit = unit K q; compose = compose K q; wrap = wrap K rules ends }
+
+-- the relation of all pairs of states below q, and whether one relation has every pair of another
+unfoldable pub below : ℕ → ℕ → ℕ → Bool
+below q x z = ltb x q && ltb z q
+
+unfoldable pub full : ℕ → ℕ → ℕ
+full K q = relation K (below q)
+
+unfoldable pub covers : ℕ → ℕ → Bool
+covers s r = eqb (bitOr r s) s
 
 -- state 0 leads to an ending state
 unfoldable pub accepts : ℕ → List ℕ → ℕ → Bool

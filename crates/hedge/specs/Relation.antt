@@ -21,3 +21,8 @@ has K r x z = bit r (x * K + z)
 pub record RelationOf (K : ℕ) (S : Schema) (w : List Tag) (r : ℕ) : Type 0 where
   pub small : r < 2 ^ (K * K)
   pub members : (x z : ℕ) → x < K → z < K → (has K r x z ≡ true) ↔ Leads S x w z
+
+-- no bit past the width, and "a relation bit outside Q" is not there
+pub record Within (K q r : ℕ) : Type 0 where
+  pub small : r < 2 ^ (K * K)
+  pub states : (x z : ℕ) → x < K → z < K → has K r x z ≡ true → (x < q) × (z < q)

@@ -6,7 +6,7 @@ ghost use Prim.Native.Nat.{_+_, _*_, _/_, _^_, _<_, _≤_};
 ghost use lib.ListN.{length};
 ghost use Rattle.hedge.specs.Schema.{field, RulesBelow, EndsBelow};
 ghost use Rattle.hedge.specs.Relation.{has};
-ghost use Rattle.hedge.specs.Operations.{one-if, linked, ended, fires, relation, unit, compose, wrap, accepts, onePair};
+ghost use Rattle.hedge.specs.Operations.{one-if, linked, ended, fires, relation, unit, compose, wrap, accepts, onePair, full, covers};
 
 // Does the relation have the pair (x, z)?
 fn has(r: u64, x: usize, z: usize) -> bool
@@ -136,6 +136,27 @@ pub fn wrap(rules: &[u8], ends: &[u8], name: u8, inner: u64) -> u64
         i += 1;
     }
     r
+}
+
+// The relation of all pairs of states.
+pub fn full(states: usize) -> u64
+    requires { ⌜ states ≤ 8 ⌝ }
+    ensures { λ r. ⌜ r ≡ full 8 states ⌝ }
+{
+    let mut r = 0u64;
+    let mut k = 0usize;
+    while k < 64 {
+        r = topped(r, k, (k / 8 < states) & (k % 8 < states));
+        k += 1;
+    }
+    r
+}
+
+// Does the relation s have every pair of r?
+pub fn covers(s: u64, r: u64) -> bool
+    ensures { λ t. ⌜ t ≡ covers s r ⌝ }
+{
+    (r | s) == s
 }
 
 // Does state 0 derive a word of this relation?
