@@ -1,0 +1,9 @@
+pub mod SplitLaws
+pub mod SpelledLaws
+pub mod FormLaws
+pub mod ReadsLaws
+pub mod NextLaws
+pub mod JoinReadLaws
+pub mod FeedLaws
+pub mod BytesLaws
+pub mod DeepLaws

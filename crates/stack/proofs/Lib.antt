@@ -1,0 +1,5 @@
+pub mod HeldLaws
+pub mod TagLaws
+pub mod TurnLaws
+pub mod FormLaws
+pub mod PackLaws

@@ -1,0 +1,53 @@
+-- A whole file: what a head and contents without a fault say of its length, its bodies by its own numbers, and the verdict.
+-- The tests of a list without a fault hold one by one; the rest opens a definition and rewrites. Assumes nothing.
+use mathlib.Core.Path.{_≡_}
+use mathlib.Core.List.{List}
+use Prim.Native.Nat.{ℕ, _≤_}
+use borrow.Author.Tests.{leb-true, eqb-true}
+use lib.ListN.{length}
+use Rattle.template.specs.Layout.{ruleCount, schemaCount, endingCount, schemaStart, endingStart, bodiesEnd}
+use Rattle.template.specs.Order.{Test, firstFault, headTests, contentsTests, body, tests, shapeOf, reading}
+use Rattle.template.specs.declared.Fault.{Fault}
+use Rattle.template.specs.declared.Fault.the-variants.{Nowhere, At}
+use Rattle.template.specs.declared.Body.{Body}
+use Rattle.template.specs.declared.Body.the-variants.{Templates, Schema, Endings}
+use Rattle.template.specs.declared.Shape.{Shape}
+use Rattle.template.specs.declared.Reading.the-variants.{Sound, Bad}
+use Rattle.template.proofs.OrderLaws.{first-holds}
+use Rattle.template.proofs.BodyLaws.{entriesOf}
+
+-- the length
+
+pub head-length : (f : List ℕ) → firstFault (headTests f) ≡ Nowhere → 16 ≤ length f
+unfolding headTests
+head-length f e = leb-true 16 (length f) (first-holds (headTests f) e .0)
+
+pub contents-length : (f : List ℕ) → firstFault (contentsTests f) ≡ Nowhere → length f ≡ bodiesEnd f
+unfolding contentsTests
+contents-length f e = eqb-true (length f) (bodiesEnd f) (first-holds (contentsTests f) e .1 .1 .1 .1 .1 .1 .0)
+
+-- the bodies, by the file's own numbers
+
+abbrev pub templateTests : List ℕ → List Test
+templateTests f = body Templates f 16 (ruleCount f)
+
+abbrev pub schemaTests : List ℕ → List Test
+schemaTests f = body Schema f (schemaStart f) (schemaCount f)
+
+abbrev pub endingTests : List ℕ → List Test
+endingTests f = body Endings f (endingStart f) (endingCount f)
+
+pub body-of : (b : Body) (f : List ℕ) {s : Shape} {first place n count : ℕ} {e : Fault}
+    → e ≡ firstFault (entriesOf b s f first first n)
+    → s ≡ shapeOf f → first ≡ place → n ≡ count → e ≡ firstFault (body b f place count)
+body-of b f made shape start size = rw (← size, ← start) (rw shape at made)
+
+-- the verdict
+
+pub reading-bad : (f : List ℕ) {p : ℕ} → At p ≡ firstFault (tests f) → Bad p ≡ reading f
+unfolding reading
+reading-bad f fault = rw (← fault)
+
+pub reading-sound : (f : List ℕ) {s : Shape} → s ≡ shapeOf f → Nowhere ≡ firstFault (tests f) → Sound s ≡ reading f
+unfolding reading
+reading-sound f shape none = rw (← none, shape)

@@ -1,0 +1,10 @@
+pub mod OrderLaws
+pub mod AscentLaws
+pub mod BodyLaws
+pub mod FileLaws
+pub mod PartLaws
+pub mod SoundLaws
+pub mod ListLaws
+pub mod AscendingLaws
+pub mod EntryLaws
+pub mod GrammarLaws

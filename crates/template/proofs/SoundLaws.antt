@@ -1,0 +1,164 @@
+-- Sound files. Where a list of tests has no fault, all of them hold (`nowhere-holds`), and two lists have none exactly where the one
+-- after the other has none; these are inductions on the list. So what reading answers says which tests hold, and the record `SoundFile`
+-- says it once in the file's own numbers: the tests of the head and the contents are read off one by one, and back. Assumes nothing.
+use mathlib.Core.Path.{_≡_, refl}
+use mathlib.Core.Bool.{Bool, true, false, _&&_, _||_}
+use mathlib.Core.List.{List, [], _∷_, _++_}
+use Prim.Native.Nat.{ℕ, _≤_}
+use native.Mathlib.Omega.{arith}
+use lib.Dec.{leb}
+use lib.ListN.{length}
+use borrow.Author.Tests.{leb-true, eqb-true, le-leb, eq-eqb}
+use Rattle.template.specs.Layout.{byteAt, halfAt, names, nonterminals, states, ruleCount, schemaCount, endingCount}
+use Rattle.template.specs.Layout.{schemaStart, endingStart, bodiesEnd}
+use Rattle.template.specs.Order.{Test, unless, firstFault, between}
+use Rattle.template.specs.Order.{headTests, contentsTests, body, bodies, tests, IsSound, shapeOf, verdict, reading}
+use Rattle.template.specs.declared.Fault.{Fault}
+use Rattle.template.specs.declared.Fault.the-variants.{Nowhere, At}
+use Rattle.template.specs.declared.Body.the-variants.{Templates, Schema, Endings}
+use Rattle.template.specs.declared.Reading.the-variants.{Sound, Bad}
+use Rattle.template.specs.declared.Shape.{Shape}
+use Rattle.hedge.proofs.TestLaws.{and-out}
+
+-- tests that all hold
+abbrev pub AllHold : List Test → Type 0
+AllHold [] = Unit {0}
+AllHold (t ∷ ts) = (t .holds ≡ true) × AllHold ts
+
+unless-nowhere : (b : Bool) (p : ℕ) (g : Fault) → unless b (At p) g ≡ Nowhere → (b ≡ true) × (g ≡ Nowhere)
+unless-nowhere true p g e = (refl, e)
+unless-nowhere false p g e = (cc, cc)
+
+pub first-nowhere : (t : Test) (ts : List Test) → firstFault (t ∷ ts) ≡ Nowhere → (t .holds ≡ true) × (firstFault ts ≡ Nowhere)
+unfolding firstFault
+first-nowhere t ts e = unless-nowhere (t .holds) (t .place) (firstFault ts) e
+
+pub nowhere-first : (t : Test) (ts : List Test) → t .holds ≡ true → firstFault ts ≡ Nowhere → firstFault (t ∷ ts) ≡ Nowhere
+unfolding firstFault
+nowhere-first t ts h e = rw (h, e)
+
+pub nowhere-holds : (ts : List Test) → firstFault ts ≡ Nowhere → AllHold ts
+nowhere-holds [] e = tt
+nowhere-holds (t ∷ ts) e = let h = first-nowhere t ts e in (h .0, nowhere-holds ts (h .1))
+
+-- one list after another
+pub first-append-nowhere : (ts us : List Test) → firstFault (ts ++ us) ≡ Nowhere → (firstFault ts ≡ Nowhere) × (firstFault us ≡ Nowhere)
+unfolding firstFault
+first-append-nowhere [] us e = (refl, e)
+first-append-nowhere (t ∷ ts) us e =
+    let h = first-nowhere t (ts ++ us) e in
+    let k = first-append-nowhere ts us (h .1) in
+    (nowhere-first t ts (h .0) (k .0), k .1)
+
+pub nowhere-append : (ts us : List Test) → firstFault ts ≡ Nowhere → firstFault us ≡ Nowhere → firstFault (ts ++ us) ≡ Nowhere
+nowhere-append [] us e d = d
+nowhere-append (t ∷ ts) us e d = let h = first-nowhere t ts e in nowhere-first t (ts ++ us) (h .0) (nowhere-append ts us (h .1) d)
+
+-- what reading answers
+
+verdict-sound : (x : Fault) (z s : Shape) → verdict x z ≡ Sound s → (x ≡ Nowhere) × (s ≡ z)
+verdict-sound Nowhere z s e = (refl, cc)
+verdict-sound (At p) z s e = (cc, cc)
+
+verdict-bad : (x : Fault) (z : Shape) (p : ℕ) → verdict x z ≡ Bad p → x ≡ At p
+verdict-bad Nowhere z p e = cc
+verdict-bad (At q) z p e = cc
+
+pub reading-sound : (f : List ℕ) (s : Shape) → reading f ≡ Sound s → IsSound f × (s ≡ shapeOf f)
+unfolding reading
+reading-sound f s e = verdict-sound (firstFault (tests f)) (shapeOf f) s e
+
+pub reading-bad : (f : List ℕ) (p : ℕ) → reading f ≡ Bad p → firstFault (tests f) ≡ At p
+unfolding reading
+reading-bad f p e = verdict-bad (firstFault (tests f)) (shapeOf f) p e
+
+pub sound-reading : (f : List ℕ) → IsSound f → reading f ≡ Sound (shapeOf f)
+unfolding reading
+sound-reading f e = rw e
+
+-- what holds of a sound file: its numbers, its length, and the tests of its three bodies
+pub record SoundFile (f : List ℕ) : Type 0 where
+  pub some-name : 1 ≤ names f
+  pub few-names : names f ≤ 32
+  pub some-nonterminal : 1 ≤ nonterminals f
+  pub few-nonterminals : nonterminals f ≤ 64
+  pub some-state : 1 ≤ states f
+  pub few-states : states f ≤ 8
+  pub spare-zero : byteAt f 3 ≡ 0
+  pub rules-offset : halfAt f 4 ≡ 16
+  pub few-rules : ruleCount f ≤ 256
+  pub schema-rules-offset : halfAt f 8 ≡ schemaStart f
+  pub few-schema-rules : schemaCount f ≤ 128
+  pub endings-offset : halfAt f 12 ≡ endingStart f
+  pub few-endings : endingCount f ≤ states f
+  pub whole-length : length f ≡ bodiesEnd f
+  pub rules-pass : firstFault (body Templates f 16 (ruleCount f)) ≡ Nowhere
+  pub schema-rules-pass : firstFault (body Schema f (schemaStart f) (schemaCount f)) ≡ Nowhere
+  pub endings-pass : firstFault (body Endings f (endingStart f) (endingCount f)) ≡ Nowhere
+
+between-true : (low x high : ℕ) → between low x high ≡ true → (low ≤ x) × (x ≤ high)
+between-true low x high e =
+    let h = and-out (leb low x) e in
+    (leb-true low x (h .0), leb-true x high (h .1))
+
+pub sound-file : (f : List ℕ) → IsSound f → SoundFile f
+unfolding tests headTests contentsTests bodies
+sound-file f e =
+    let rules = body Templates f 16 (ruleCount f) in
+    let schema-rules = body Schema f (schemaStart f) (schemaCount f) in
+    let endings = body Endings f (endingStart f) (endingCount f) in
+    let t = first-append-nowhere (headTests f) (contentsTests f ++ bodies f) e in
+    let u = first-append-nowhere (contentsTests f) (bodies f) (t .1) in
+    let v = first-append-nowhere rules (schema-rules ++ endings) (u .1) in
+    let w = first-append-nowhere schema-rules endings (v .1) in
+    let h = nowhere-holds (headTests f) (t .0) in
+    let k = nowhere-holds (contentsTests f) (u .0) in
+    let a = between-true 1 (names f) 32 (h .1 .0) in
+    let n = between-true 1 (nonterminals f) 64 (h .1 .1 .0) in
+    let q = between-true 1 (states f) 8 (h .1 .1 .1 .0) in
+    record {
+      some-name = a .0;
+      few-names = a .1;
+      some-nonterminal = n .0;
+      few-nonterminals = n .1;
+      some-state = q .0;
+      few-states = q .1;
+      spare-zero = eqb-true (byteAt f 3) 0 (h .1 .1 .1 .1 .0);
+      rules-offset = eqb-true (halfAt f 4) 16 (k .0);
+      few-rules = leb-true (ruleCount f) 256 (k .1 .0);
+      schema-rules-offset = eqb-true (halfAt f 8) (schemaStart f) (k .1 .1 .0);
+      few-schema-rules = leb-true (schemaCount f) 128 (k .1 .1 .1 .0);
+      endings-offset = eqb-true (halfAt f 12) (endingStart f) (k .1 .1 .1 .1 .0);
+      few-endings = leb-true (endingCount f) (states f) (k .1 .1 .1 .1 .1 .0);
+      whole-length = eqb-true (length f) (bodiesEnd f) (k .1 .1 .1 .1 .1 .1 .0);
+      rules-pass = v .0;
+      schema-rules-pass = w .0;
+      endings-pass = w .1;
+    }
+
+-- and these are all the tests
+true-between : (low x high : ℕ) → low ≤ x → x ≤ high → between low x high ≡ true
+true-between low x high h k = rw (le-leb low x h, le-leb x high k)
+
+pub file-sound : (f : List ℕ) → SoundFile f → IsSound f
+unfolding tests headTests contentsTests bodies firstFault
+file-sound f s =
+    let head : firstFault (headTests f) ≡ Nowhere =
+    rw (le-leb 16 (length f) (omega arith), true-between 1 (names f) 32 (s .some-name) (s .few-names))
+    (rw (true-between 1 (nonterminals f) 64 (s .some-nonterminal) (s .few-nonterminals))
+    (rw (true-between 1 (states f) 8 (s .some-state) (s .few-states), eq-eqb (byteAt f 3) 0 (s .spare-zero)))) in
+    let contents : firstFault (contentsTests f) ≡ Nowhere =
+    rw (eq-eqb (halfAt f 4) 16 (s .rules-offset), le-leb (ruleCount f) 256 (s .few-rules))
+    (rw (eq-eqb (halfAt f 8) (schemaStart f) (s .schema-rules-offset), le-leb (schemaCount f) 128 (s .few-schema-rules))
+    (rw (eq-eqb (halfAt f 12) (endingStart f) (s .endings-offset), le-leb (endingCount f) (states f) (s .few-endings))
+    (rw (eq-eqb (length f) (bodiesEnd f) (s .whole-length))))) in
+    let rules = body Templates f 16 (ruleCount f) in
+    let schema-rules = body Schema f (schemaStart f) (schemaCount f) in
+    let endings = body Endings f (endingStart f) (endingCount f) in
+    nowhere-append (headTests f) (contentsTests f ++ bodies f) head
+    (nowhere-append (contentsTests f) (bodies f) contents
+    (nowhere-append rules (schema-rules ++ endings) (s .rules-pass)
+    (nowhere-append schema-rules endings (s .schema-rules-pass) (s .endings-pass))))
+
+pub sound-length : (f : List ℕ) → SoundFile f → length f ≤ 1560
+sound-length f s = omega arith

@@ -1,0 +1,149 @@
+-- The shape's numbers are the file's, so each body fits into the file and its fault is that of the file's own body: a fault stays,
+-- and without one the next body decides. Assumes nothing.
+use mathlib.Core.List.{List}
+use mathlib.Core.Path.{_≡_, refl, ap, _∙_}
+use Prim.Native.Nat.{ℕ}
+use native.Mathlib.Omega.{arith}
+use denote.Ref.{now}
+use borrow.Author.Needs.{needs}
+use Rattle.template.specs.Order.{firstFault, width, body, bodies}
+use Rattle.template.specs.declared.Shape.{Shape}
+use Rattle.template.specs.declared.Body.the-variants.{Templates, Schema, Endings}
+use Rattle.template.specs.Layout.{ruleCount, schemaCount, endingCount}
+use Rattle.template.proofs.FileLaws.{templateTests, schemaTests, endingTests, body-of}
+use Rattle.template.proofs.OrderLaws.{first-stays, first-passes}
+use Rattle.template.proofs.bodies_fault.Statement.{statement}
+use Rattle.template.proofs.bodies_fault.Tie as tie
+
+-- the file, and its numbers as they were widened from the shape
+
+abbrev fileAt : tie.After-wide-half2 → List ℕ
+fileAt w = now (w .before .before .before .args .file)
+
+templates-are : (w : tie.After-wide-half2) → w .before .wide-half .result ≡ ruleCount (fileAt w)
+templates-are w = w .before .wide-half .ensures .0 ∙ ap (λ (s : Shape). s .templates) (w .before .before .before .pre .0)
+
+schema-are : (w : tie.After-wide-half2) → w .wide-half2 .result ≡ schemaCount (fileAt w)
+schema-are w = w .wide-half2 .ensures .0 ∙ ap (λ (s : Shape). s .schema) (w .before .before .before .pre .0)
+
+endings-are : (c : tie.After-wide-half3)
+    → c .wide-half3 .result ≡ endingCount (fileAt (c .before .before .before .before .before .before .before))
+endings-are c =
+    c .wide-half3 .ensures .0
+    ∙ ap (λ (s : Shape). s .endings) (c .before .before .before .before .before .before .before .before .before .before .pre .0)
+
+-- the first fault of each body
+
+first-is : (c : tie.After-body-fault) → c .body-fault .result ≡ firstFault (templateTests (fileAt (c .before)))
+first-is c =
+    let w = c .before in
+    body-of Templates (fileAt w) (c .body-fault .ensures) (w .before .before .before .pre .0) refl (templates-are w)
+
+second-is : (c : tie.After-body-fault2) → c .body-fault2 .result ≡ firstFault (schemaTests (fileAt (c .before .before .before .before)))
+second-is c =
+    let w = c .before .before .before .before in
+    body-of Schema (fileAt w) (c .body-fault2 .ensures) (w .before .before .before .pre .0) (rw (templates-are w)) (schema-are w)
+
+third-is : (c : tie.After-body-fault3)
+    → c .body-fault3 .result ≡ firstFault (endingTests (fileAt (c .before .before .before .before .before .before .before .before)))
+third-is c =
+    let w = c .before .before .before .before .before .before .before .before in
+    body-of Endings (fileAt w) (c .body-fault3 .ensures) (w .before .before .before .pre .0) (rw (templates-are w, schema-are w))
+    (endings-are (c .before))
+
+-- the answers
+
+wide-half-requires : tie.Need-wide-half-requires
+wide-half-requires c κs = search needs
+
+wide-half-requires-2 : tie.Need-wide-half-requires-2
+wide-half-requires-2 c κs = search needs
+
+mul-second : tie.Need-mul-second
+mul-second c = search needs
+
+add-second : tie.Need-add-second
+add-second c = search needs
+
+mul-third : tie.Need-mul-third
+mul-third c = search needs
+
+add-third : tie.Need-add-third
+add-third c = search needs
+
+body-fault-requires : tie.Need-body-fault-requires
+unfolding width
+body-fault-requires c κs = (omega arith, omega (arith, templates-are c, c .before .before .before .pre .1))
+
+enum-known-f : tie.Need-enum-known-f
+enum-known-f c = search needs
+
+returns : tie.Need-returns
+unfolding bodies
+returns c =
+    let first = c .before .before .before in
+    first-stays (templateTests (fileAt (first .before))) _ (first-is first) (c .before .f .given .1)
+
+enum-told : tie.Need-enum-told
+enum-told c = search needs
+
+body-fault-requires-2 : tie.Need-body-fault-requires-2
+unfolding width
+body-fault-requires-2 c κs =
+    let w = c .before .before .before in
+    (omega arith, omega (arith, templates-are w, schema-are w, w .before .before .before .pre .1))
+
+enum-known-g : tie.Need-enum-known-g
+enum-known-g c = search needs
+
+returns-2 : tie.Need-returns-2
+unfolding bodies
+returns-2 c =
+    let second = c .before .before .before in
+    let first = second .before .before .before in
+    let file = fileAt (first .before) in
+    first-passes (templateTests file) _ (first-is first) (second .before .enum-told .given .1)
+    (first-stays (schemaTests file) _ (second-is second) (c .before .g .given .1))
+
+enum-told-2 : tie.Need-enum-told-2
+enum-told-2 c = search needs
+
+wide-half-requires-3 : tie.Need-wide-half-requires-3
+wide-half-requires-3 c κs = search needs
+
+body-fault-requires-3 : tie.Need-body-fault-requires-3
+unfolding width
+body-fault-requires-3 c κs =
+    let w = c .before .before .before .before .before .before .before in
+    (omega arith, omega (arith, templates-are w, schema-are w, endings-are c, w .before .before .before .pre .1))
+
+returns-3 : tie.Need-returns-3
+unfolding bodies
+returns-3 c =
+    let second = c .before .before .before .before in
+    let first = second .before .before .before in
+    let file = fileAt (first .before) in
+    first-passes (templateTests file) _ (first-is first) (second .before .enum-told .given .1)
+    (first-passes (schemaTests file) _ (second-is second) (c .before .before .enum-told2 .given .1) (third-is c))
+
+pub bodies-fault-spec : {M : Type 1} → statement M
+bodies-fault-spec =
+    tie.close
+    (tie.spec
+    wide-half-requires
+    wide-half-requires-2
+    mul-second
+    add-second
+    mul-third
+    add-third
+    body-fault-requires
+    enum-known-f
+    returns
+    enum-told
+    body-fault-requires-2
+    enum-known-g
+    returns-2
+    enum-told-2
+    wide-half-requires-3
+    body-fault-requires-3
+    returns-3)

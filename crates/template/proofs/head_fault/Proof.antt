@@ -1,0 +1,76 @@
+-- A short file fails the first test. Else that test holds and the four of bytes 0 to 3 follow as a chain. Assumes nothing.
+use mathlib.Core.Path.{refl, sym}
+use borrow.Author.Tests.{le-leb, lt-leb}
+use borrow.Author.Needs.{needs}
+use Rattle.template.specs.Order.{headTests, firstFault}
+use Rattle.template.proofs.OrderLaws.{first-held, ended, tested, first-chain}
+use Rattle.template.proofs.head_fault.Statement.{statement}
+use Rattle.template.proofs.head_fault.Tie as tie
+
+returns : tie.Need-returns
+unfolding headTests firstFault
+returns c = rw (lt-leb _ _ (c .if1 .taken))
+
+shared-slice-read-is-between : tie.Need-shared-slice-read-is-between
+shared-slice-read-is-between c = search needs
+
+is-between-requires : tie.Need-is-between-requires
+is-between-requires c κs = search needs
+
+then-test-requires : tie.Need-then-test-requires
+then-test-requires c κs = search needs
+
+shared-slice-read-is-between-2 : tie.Need-shared-slice-read-is-between-2
+shared-slice-read-is-between-2 c = search needs
+
+is-between-requires-2 : tie.Need-is-between-requires-2
+is-between-requires-2 c κs = search needs
+
+then-test-requires-2 : tie.Need-then-test-requires-2
+then-test-requires-2 c κs = search needs
+
+shared-slice-read-is-between-3 : tie.Need-shared-slice-read-is-between-3
+shared-slice-read-is-between-3 c = search needs
+
+is-between-requires-3 : tie.Need-is-between-requires-3
+is-between-requires-3 c κs = search needs
+
+then-test-requires-3 : tie.Need-then-test-requires-3
+then-test-requires-3 c κs = search needs
+
+shared-slice-read-then-test : tie.Need-shared-slice-read-then-test
+shared-slice-read-then-test c = search needs
+
+then-test-requires-4 : tie.Need-then-test-requires-4
+then-test-requires-4 c κs = search needs
+
+returns-2 : tie.Need-returns-2
+unfolding headTests
+returns-2 c =
+    let d = c .before .before in
+    let e = d .before .before .before in
+    let f = e .before .before .before in
+    first-chain
+    (tested (first-held 0) (sym (le-leb _ _ (f .before .before .before .if1 .left)))
+    (tested (f .then-test .ensures) (f .before .is-between .ensures)
+    (tested (e .then-test2 .ensures) (e .before .is-between2 .ensures)
+    (tested (d .then-test3 .ensures) (d .before .is-between3 .ensures)
+    (tested (c .then-test4 .ensures) refl ended)))))
+
+pub head-fault-spec : {M : Type 1} → statement M
+head-fault-spec =
+    tie.close
+    (tie.spec
+    returns
+    shared-slice-read-is-between
+    is-between-requires
+    then-test-requires
+    shared-slice-read-is-between-2
+    is-between-requires-2
+    then-test-requires-2
+    shared-slice-read-is-between-3
+    is-between-requires-3
+    then-test-requires-3
+    shared-slice-read-then-test
+    then-test-requires-4
+    returns-2)

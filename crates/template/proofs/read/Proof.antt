@@ -1,0 +1,122 @@
+-- Head, contents, bodies: a fault stays, and without one the next list decides. A head without a fault makes the contents
+-- readable, contents without one say that the bodies end where the file does. Assumes nothing.
+use mathlib.Core.List.{List, _++_}
+use mathlib.Core.Path.{_≡_, _∙_, sym}
+use Prim.Native.Nat.{ℕ, _≤_}
+use native.Mathlib.Omega.{arith}
+use denote.Ref.{now}
+use borrow.Author.Needs.{needs}
+use lib.ListN.{length}
+use Rattle.template.specs.declared.Fault.{Fault}
+use Rattle.template.specs.Order.{Test, firstFault, bodies, headTests, contentsTests, tests}
+use Rattle.template.specs.Layout.{bodiesEnd}
+use Rattle.template.proofs.FileLaws.{head-length, contents-length, reading-bad, reading-sound}
+use Rattle.template.proofs.OrderLaws.{first-stays, first-passes}
+use Rattle.template.proofs.read.Statement.{statement}
+use Rattle.template.proofs.read.Tie as tie
+
+-- the file, and what follows a head or contents without a fault
+
+abbrev fileAt : tie.After-head-fault → List ℕ
+fileAt h = now (h .before .before .args .file)
+
+long : (c : tie.After-enum-told) → 16 ≤ length (fileAt (c .before .before))
+long c = head-length (fileAt (c .before .before)) (sym (c .before .before .head-fault .ensures) ∙ c .enum-told .given .1)
+
+exact : (c : tie.After-enum-told2)
+    → length (fileAt (c .before .before .before .before .before)) ≡ bodiesEnd (fileAt (c .before .before .before .before .before))
+exact c =
+    contents-length (fileAt (c .before .before .before .before .before))
+    (sym (c .before .before .contents-fault .ensures) ∙ c .enum-told2 .given .1)
+
+after-head : (c : tie.After-enum-told) {g : Fault} (ts : List Test) → g ≡ firstFault ts
+    → g ≡ firstFault (headTests (fileAt (c .before .before)) ++ ts)
+after-head c ts =
+    first-passes (headTests (fileAt (c .before .before))) ts (c .before .before .head-fault .ensures) (c .enum-told .given .1)
+
+after-contents : (c : tie.After-enum-told2) {g : Fault} → g ≡ firstFault (bodies (fileAt (c .before .before .before .before .before)))
+    → g ≡ firstFault (tests (fileAt (c .before .before .before .before .before)))
+unfolding tests
+after-contents c rest =
+    let file = fileAt (c .before .before .before .before .before) in
+    after-head (c .before .before .before) (contentsTests file ++ bodies file)
+    (first-passes (contentsTests file) (bodies file) (c .before .before .contents-fault .ensures) (c .enum-told2 .given .1) rest)
+
+-- the answers
+
+head-fault-requires : tie.Need-head-fault-requires
+head-fault-requires c κs = search needs
+
+enum-known-head : tie.Need-enum-known-head
+enum-known-head c = search needs
+
+returns : tie.Need-returns
+unfolding tests
+returns c =
+    let h = c .before .before .before in
+    reading-bad (fileAt h) (first-stays (headTests (fileAt h)) _ (h .head-fault .ensures) (c .before .head .given .1))
+
+enum-told : tie.Need-enum-told
+enum-told c = search needs
+
+contents-fault-requires : tie.Need-contents-fault-requires
+contents-fault-requires c κs = long c
+
+enum-known-contents : tie.Need-enum-known-contents
+enum-known-contents c = search needs
+
+returns-2 : tie.Need-returns-2
+unfolding tests
+returns-2 c =
+    let k = c .before .before .before in
+    let file = fileAt (k .before .before .before) in
+    reading-bad file
+    (after-head (k .before) _ (first-stays (contentsTests file) _ (k .contents-fault .ensures) (c .before .contents .given .1)))
+
+enum-told-2 : tie.Need-enum-told-2
+enum-told-2 c = search needs
+
+shape-of-requires : tie.Need-shape-of-requires
+shape-of-requires c κs = long (c .before .before .before)
+
+bodies-fault-requires : tie.Need-bodies-fault-requires
+bodies-fault-requires c κs = (c .shape-of .ensures, omega (arith, exact (c .before)))
+
+enum-known-rest : tie.Need-enum-known-rest
+enum-known-rest c = search needs
+
+returns-3 : tie.Need-returns-3
+returns-3 c =
+    let b = c .before .before .before in
+    let k = b .before .before in
+    reading-bad (fileAt (k .before .before .before .before .before))
+    (after-contents k (sym (c .before .rest .given .1) ∙ b .bodies-fault .ensures))
+
+enum-told-3 : tie.Need-enum-told-3
+enum-told-3 c = search needs
+
+returns-4 : tie.Need-returns-4
+returns-4 c =
+    let b = c .before .before in
+    let k = b .before .before in
+    reading-sound (fileAt (k .before .before .before .before .before)) (b .before .shape-of .ensures)
+    (after-contents k (sym (c .enum-told3 .given .1) ∙ b .bodies-fault .ensures))
+
+pub read-spec : {M : Type 1} → statement M
+read-spec =
+    tie.close
+    (tie.spec
+    head-fault-requires
+    enum-known-head
+    returns
+    enum-told
+    contents-fault-requires
+    enum-known-contents
+    returns-2
+    enum-told-2
+    shape-of-requires
+    bodies-fault-requires
+    enum-known-rest
+    returns-3
+    enum-told-3
+    returns-4)

@@ -1,0 +1,32 @@
+-- The template rules as a grammar. Document 01, "Tags, templates, schema": "A template set is a context-free grammar with N
+-- nonterminals; byte 64+n stands for nonterminal n; 0 is the start. A rule has 0, 1 or 2 symbols on its right." "A template rule is 4
+-- bytes: left side, length, two symbols." Right sides are lists of symbols of any length.
+use mathlib.Core.Path.{_≡_}
+use mathlib.Core.Bool.{Bool, true, false}
+use mathlib.Core.List.{List, [], _∷_, map}
+use Prim.Native.Nat.{ℕ, _+_, _/_, _-_, _<_}
+use lib.Dec.{ltb}
+use lib.ListN.{length, take}
+use Rattle.words.specs.Tags.{Tag, start, end}
+use Rattle.hedge.specs.Schema.{field}
+
+-- a tag or a nonterminal
+pub data Symbol : Type 0 where
+  tag : Tag → Symbol
+  nonterminal : ℕ → Symbol
+
+abbrev pub pickSymbol : Bool → Symbol → Symbol → Symbol
+pickSymbol true s t = s
+pickSymbol false s t = t
+
+-- the symbol that a byte stands for
+unfoldable pub symbolOf : ℕ → Symbol
+symbolOf b = pickSymbol (ltb b 32) (tag (start b)) (pickSymbol (ltb b 64) (tag (end (b - 32))) (nonterminal (b - 64)))
+
+-- the right side of rule i in a list of bytes, four to a rule
+unfoldable pub rightSide : List ℕ → ℕ → List Symbol
+rightSide rules i = map symbolOf (take (field rules i 1) (field rules i 2 ∷ field rules i 3 ∷ []))
+
+-- the list has a rule from the nonterminal x to these symbols
+abbrev pub Gives : List ℕ → ℕ → List Symbol → Type 0
+Gives rules x symbols = (i : ℕ) × (i < length rules / 4) × (field rules i 0 ≡ x) × (rightSide rules i ≡ symbols)

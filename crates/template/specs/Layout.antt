@@ -1,0 +1,63 @@
+-- Where things stand in a template file. Document 01, "Template file: contents first, then the bodies": "0 to 3: A, N, Q, then 0. 4 to
+-- 15: contents: for template rules, schema rules, ending states in this order, offset and count (16 bits each). 16 on: the three
+-- bodies in that order, without gaps, the last ending at the file's end." "All 16-bit numbers are little-endian."
+use mathlib.Core.Bool.{Bool, true, false}
+use mathlib.Core.List.{List, []}
+use Prim.Native.Nat.{ℕ, _+_, _*_}
+use lib.Dec.{leb}
+use lib.ListN.{length, getD, take, drop}
+
+-- the byte at a place, and the 16-bit number
+abbrev pub byteAt : List ℕ → ℕ → ℕ
+byteAt f p = getD f p 0
+
+unfoldable pub halfAt : List ℕ → ℕ → ℕ
+halfAt f p = byteAt f p + 256 * byteAt f (p + 1)
+
+-- A, N and Q
+abbrev pub names : List ℕ → ℕ
+names f = byteAt f 0
+
+abbrev pub nonterminals : List ℕ → ℕ
+nonterminals f = byteAt f 1
+
+abbrev pub states : List ℕ → ℕ
+states f = byteAt f 2
+
+-- how many template rules, schema rules, ending states
+abbrev pub ruleCount : List ℕ → ℕ
+ruleCount f = halfAt f 6
+
+abbrev pub schemaCount : List ℕ → ℕ
+schemaCount f = halfAt f 10
+
+abbrev pub endingCount : List ℕ → ℕ
+endingCount f = halfAt f 14
+
+-- where the second and the third body begin, and where the last one ends: a rule has 4 bytes, an ending state 1
+abbrev pub schemaStart : List ℕ → ℕ
+schemaStart f = 16 + 4 * ruleCount f
+
+abbrev pub endingStart : List ℕ → ℕ
+endingStart f = schemaStart f + 4 * schemaCount f
+
+abbrev pub bodiesEnd : List ℕ → ℕ
+bodiesEnd f = endingStart f + endingCount f
+
+-- a part of the file, empty where the file ends before it does
+abbrev pub pickPart : Bool → List ℕ → List ℕ
+pickPart true xs = xs
+pickPart false xs = []
+
+unfoldable pub partOf : List ℕ → ℕ → ℕ → List ℕ
+partOf f at len = pickPart (leb (at + len) (length f)) (take len (drop at f))
+
+-- the three lists, as parts of the file
+abbrev pub templateRules : List ℕ → List ℕ
+templateRules f = partOf f 16 (4 * ruleCount f)
+
+abbrev pub schemaRules : List ℕ → List ℕ
+schemaRules f = partOf f (schemaStart f) (4 * schemaCount f)
+
+abbrev pub endingStates : List ℕ → List ℕ
+endingStates f = partOf f (endingStart f) (endingCount f)

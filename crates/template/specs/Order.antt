@@ -1,0 +1,157 @@
+-- The order of reading. Document 01, "Template file": "Order of reading: length below 16 (place 0); bytes 0 to 3; for each contents
+-- entry offset, then count; total length (place 0); then each body's entries in turn, each field left to right, then the ascent (place:
+-- the entry's first byte). The first fault decides. Otherwise the place is the first byte of the field at fault."
+use mathlib.Core.Path.{_≡_}
+use mathlib.Core.Bool.{Bool, true, false, _&&_, _||_}
+use mathlib.Core.List.{List, [], _∷_, _++_}
+use Prim.Native.Nat.{ℕ, zero, suc, _+_, _*_, _-_}
+use lib.Dec.{ltb, leb, eqb}
+use lib.ListN.{length, take, drop}
+use Rattle.template.specs.Layout.{byteAt, halfAt, names, nonterminals, states, ruleCount, schemaCount, endingCount, schemaStart, endingStart, bodiesEnd}
+use Rattle.template.specs.declared.Fault.{Fault}
+use Rattle.template.specs.declared.Fault.the-variants.{Nowhere, At}
+use Rattle.template.specs.declared.Body.{Body}
+use Rattle.template.specs.declared.Body.the-variants.{Templates, Schema, Endings}
+use Rattle.template.specs.declared.Reading.{Reading}
+use Rattle.template.specs.declared.Reading.the-variants.{Sound, Bad}
+use Rattle.template.specs.declared.Shape.{Shape}
+
+-- what must hold, and the place that is given where it does not
+pub record Test : Type 0 where
+  pub holds : Bool
+  pub place : ℕ
+
+abbrev pub test : Bool → ℕ → Test
+test b p = record { holds = b; place = p }
+
+-- "The first fault decides."
+abbrev pub unless : Bool → Fault → Fault → Fault
+unless true f g = g
+unless false f g = f
+
+unfoldable pub firstFault : List Test → Fault
+firstFault [] = Nowhere
+firstFault (t ∷ ts) = unless (t .holds) (At (t .place)) (firstFault ts)
+
+-- an earlier fault stays
+abbrev pub orThen : Fault → Fault → Fault
+orThen Nowhere g = g
+orThen (At p) g = At p
+
+abbrev pub between : ℕ → ℕ → ℕ → Bool
+between low x high = leb low x && leb x high
+
+-- length; A from 1 to 32, N from 1 to 64, Q from 1 to 8, then 0
+unfoldable pub headTests : List ℕ → List Test
+headTests f =
+    test (leb 16 (length f)) 0
+    ∷ test (between 1 (names f) 32) 0
+    ∷ test (between 1 (nonterminals f) 64) 1
+    ∷ test (between 1 (states f) 8) 2
+    ∷ test (eqb (byteAt f 3) 0) 3
+    ∷ []
+
+-- offsets without gaps; counts at most 256, 128 and Q; total length
+unfoldable pub contentsTests : List ℕ → List Test
+contentsTests f =
+    test (eqb (halfAt f 4) 16) 4
+    ∷ test (leb (ruleCount f) 256) 6
+    ∷ test (eqb (halfAt f 8) (schemaStart f)) 8
+    ∷ test (leb (schemaCount f) 128) 10
+    ∷ test (eqb (halfAt f 12) (endingStart f)) 12
+    ∷ test (leb (endingCount f) (states f)) 14
+    ∷ test (eqb (length f) (bodiesEnd f)) 0
+    ∷ []
+
+-- "a used one is a tag of a name below A or a nonterminal below N, an unused one 255"
+abbrev pub isSymbol : ℕ → ℕ → ℕ → Bool
+isSymbol A N b = ltb b A || ((leb 32 b && ltb b (32 + A)) || (leb 64 b && ltb b (64 + N)))
+
+abbrev pub symbolHolds : Bool → ℕ → ℕ → ℕ → Bool
+symbolHolds true A N b = isSymbol A N b
+symbolHolds false A N b = eqb b 255
+
+-- the fields of an entry, left to right, in a file of A names, N nonterminals and Q states
+unfoldable pub fieldTests : Body → ℕ → ℕ → ℕ → List ℕ → ℕ → List Test
+fieldTests Templates A N Q f at =
+    test (ltb (byteAt f at) N) at
+    ∷ test (leb (byteAt f (at + 1)) 2) (at + 1)
+    ∷ test (symbolHolds (ltb 0 (byteAt f (at + 1))) A N (byteAt f (at + 2))) (at + 2)
+    ∷ test (symbolHolds (ltb 1 (byteAt f (at + 1))) A N (byteAt f (at + 3))) (at + 3)
+    ∷ []
+fieldTests Schema A N Q f at =
+    test (ltb (byteAt f at) Q) at
+    ∷ test (ltb (byteAt f (at + 1)) A) (at + 1)
+    ∷ test (ltb (byteAt f (at + 2)) Q) (at + 2)
+    ∷ test (ltb (byteAt f (at + 3)) Q) (at + 3)
+    ∷ []
+fieldTests Endings A N Q f at = test (ltb (byteAt f at) Q) at ∷ []
+
+-- how many bytes an entry has
+unfoldable pub width : Body → ℕ
+width Templates = 4
+width Schema = 4
+width Endings = 1
+
+-- "compared byte by byte": the first byte that differs is smaller
+unfoldable pub precedes : List ℕ → List ℕ → Bool
+precedes [] ys = false
+precedes (x ∷ xs) [] = false
+precedes (x ∷ xs) (y ∷ ys) = ltb x y || (eqb x y && precedes xs ys)
+
+-- "Entries of each body ascend strictly": the entry is the body's first, or the one before it precedes it
+unfoldable pub ascends : ℕ → List ℕ → ℕ → ℕ → Bool
+ascends wide f first at = leb at first || precedes (take wide (drop (at - wide) f)) (take wide (drop at f))
+
+-- the entries of a body in turn, n of them from a place on
+unfoldable pub entryTests : Body → ℕ → ℕ → ℕ → List ℕ → ℕ → ℕ → List Test
+entryTests b A N Q f first at = fieldTests b A N Q f at ++ (test (ascends (width b) f first at) at ∷ [])
+
+unfoldable pub bodyTests : Body → ℕ → ℕ → ℕ → List ℕ → ℕ → ℕ → ℕ → List Test
+bodyTests b A N Q f first at zero = []
+bodyTests b A N Q f first at (suc n) = entryTests b A N Q f first at ++ bodyTests b A N Q f first (at + width b) n
+
+abbrev pub body : Body → List ℕ → ℕ → ℕ → List Test
+body b f first n = bodyTests b (names f) (nonterminals f) (states f) f first first n
+
+unfoldable pub bodies : List ℕ → List Test
+bodies f =
+    body Templates f 16 (ruleCount f)
+    ++ (body Schema f (schemaStart f) (schemaCount f) ++ body Endings f (endingStart f) (endingCount f))
+
+-- the whole order of reading
+unfoldable pub tests : List ℕ → List Test
+tests f = headTests f ++ (contentsTests f ++ bodies f)
+
+-- "sound when all hold"
+abbrev pub IsSound : List ℕ → Type 0
+IsSound f = firstFault (tests f) ≡ Nowhere
+
+-- a sound file's numbers
+abbrev pub shapeOf : List ℕ → Shape
+shapeOf f =
+    record {
+      names = names f;
+      nonterminals = nonterminals f;
+      states = states f;
+      templates = ruleCount f;
+      schema = schemaCount f;
+      endings = endingCount f;
+    }
+
+-- sound with its numbers where every test holds, else bad with the place of the first that fails
+abbrev pub verdict : Fault → Shape → Reading
+verdict Nowhere s = Sound s
+verdict (At p) s = Bad p
+
+unfoldable pub reading : List ℕ → Reading
+reading f = verdict (firstFault (tests f)) (shapeOf f)
+
+-- "7: bad file; number returned: place"
+abbrev pub answer : Reading → ℕ
+answer (Sound s) = 0
+answer (Bad p) = 7
+
+abbrev pub number : Reading → ℕ
+number (Sound s) = 0
+number (Bad p) = p
