@@ -6,6 +6,7 @@ use Rattle.words.specs.Tags.{Tag, start, end}
 use Rattle.words.specs.Balance.{Balanced}
 use Rattle.words.specs.Binoid.{Binoid, Laws, Value}
 use Rattle.words.specs.Reduced.{Stack, bottom, push, OnlyEnds, EndsFirst, Reduced, whole, after-end, after-start}
+pub use Rattle.words.specs.Reduced.{GoodStack}
 use Rattle.words.proofs.ValueLaws.{value-balanced, balanced-value, value-good, value-append}
 
 -- shape and values of a stack
@@ -19,11 +20,6 @@ module _ {H : Type 0} where
   pub ends-first-below : (s : Stack H) (h : H) (t : Tag) → EndsFirst (push s h t) → EndsFirst s
   ends-first-below s h (start a) f = f
   ends-first-below s h (end a) f = only-ends-first s f
-
-  -- the predicate holds of the value before each tag
-  abbrev pub GoodStack : (H → Type 0) → Stack H → Type 0
-  GoodStack G bottom = Unit {0}
-  GoodStack G (push s h t) = GoodStack G s × G h
 
 -- reduced forms
 

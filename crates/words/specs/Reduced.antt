@@ -25,6 +25,11 @@ module _ {H : Type 0} where
   EndsFirst (push s h (start a)) = EndsFirst s
   EndsFirst (push s h (end a)) = OnlyEnds s
 
+  -- the predicate holds of the value before each tag
+  abbrev pub GoodStack : (H → Type 0) → Stack H → Type 0
+  GoodStack G bottom = Unit {0}
+  GoodStack G (push s h t) = GoodStack G s × G h
+
   -- the number of tags; of start tags; of end tags
   unfoldable pub tags : Stack H → ℕ
   tags bottom = 0
