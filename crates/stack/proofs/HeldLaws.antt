@@ -8,7 +8,7 @@ use Prim.Native.Nat.{ℕ, zero, suc, _+_, _-_, _≤_, _<_}
 use native.Mathlib.Decide.{ℕ-discrete, decLt}
 use native.Mathlib.Omega.{arith}
 use lib.IntN.{pos, _-ℤ_}
-use lib.ListN.{getD, set, length, length-set}
+use lib.ListN.{getD, set, length, length-set, replicate}
 use lib.Seq.{getD-set-same, getD-set-other}
 use borrow.Author.Tests.{lt-ltb, le-ltb}
 use Rattle.words.specs.Tags.{start, end}
@@ -94,6 +94,18 @@ stack-take e n m a v w names values p =
     (λ k l. getD-set-other (set values n w) m k v 0 (omega arith) ∙ getD-set-other values n k w 0 (omega arith))
 
 -- unused places
+
+empty-place : (n k : ℕ) → _≡_ {A = ℕ} (getD (replicate n 0) k 0) 0
+empty-place zero k = refl
+empty-place (suc n) zero = refl
+empty-place (suc n) (suc k) = empty-place n k
+
+pub unused-none : (n m v : ℕ) → Unused 0 (replicate n 0) (set (replicate m 0) 0 v)
+unused-none n m v =
+    record {
+      names-zero = λ k l. empty-place n k;
+      relations-zero = λ k l. getD-set-other (replicate m 0) 0 k v 0 (omega arith) ∙ empty-place m k;
+    }
 
 pub unused-put : (n m a v : ℕ) (names values : List ℕ) → m ≡ suc n → Unused n names values
     → Unused m (set names n a) (set values m v)

@@ -6,7 +6,7 @@ use mathlib.Core.Bool.{Bool, true, false}
 use mathlib.Core.List.{List}
 use Prim.Native.Nat.{ℕ, suc, _+_, _-_, _≤_, _<_}
 use native.Mathlib.Omega.{arith}
-use lib.ListN.{getD, set, length-set}
+use lib.ListN.{getD, set, length-set, replicate, length-replicate}
 use lib.Seq.{getD-set-same}
 use borrow.Author.Needs.{needs}
 use Rattle.words.specs.Tags.{Tag, start, end}
@@ -19,8 +19,8 @@ use Rattle.stack.specs.Held.{tagOf, stackOf}
 use Rattle.stack.specs.Steps.{Schooled, Holds, held, outcome, Stepped, after-tag}
 use Rattle.stack.specs.declared.Step.{Step}
 use Rattle.stack.specs.declared.Step.the-variants.{Kept, Mismatch, TooDeep}
-use Rattle.stack.proofs.HeldLaws.{tag-start, stack-last, stack-put-start, stack-put-end, stack-take, unused-put, unused-take}
-use Rattle.stack.proofs.HeldLaws.{value-taken, tags-held, only-ends-held, ends-first-held}
+use Rattle.stack.proofs.HeldLaws.{tag-start, stack-last, stack-put-start, stack-put-end, stack-take}
+use Rattle.stack.proofs.HeldLaws.{unused-none, unused-put, unused-take, value-taken, tags-held, only-ends-held, ends-first-held}
 
 -- what a step says
 
@@ -37,7 +37,16 @@ pub says-deep : (names values : List ℕ) (o : Limited ℕ) → o ≡ too-deep �
 unfolding outcome
 says-deep names values o p = record { says = sym p; tidy = tt }
 
--- the arrays after a tag more or less
+-- the arrays before any tag, and after a tag more or less
+
+pub holds-none : (v : ℕ) → Holds 0 0 (replicate 16 0) (set (replicate 17 0) 0 v)
+holds-none v =
+    record {
+      names-long = length-replicate {A = ℕ} 16 0;
+      values-long = length-set (replicate 17 0) 0 v ∙ length-replicate {A = ℕ} 17 0;
+      room = omega arith;
+      unused = unused-none 16 17 v;
+    }
 
 holds-put : (e s e′ s′ m a v : ℕ) (names values : List ℕ) → m ≡ e′ + s′ → m ≡ suc (e + s) → e + s < 16 → Holds e s names values
     → Holds e′ s′ (set names (e + s) a) (set values m v)

@@ -4,7 +4,6 @@ use mathlib.Core.List.{List}
 use Prim.Native.Nat.{ℕ, _+_, _≤_}
 use lib.ListN.{getD, length}
 use Rattle.words.specs.Tags.{Tag}
-use Rattle.words.specs.Binoid.{Binoid}
 use Rattle.words.specs.Reader.{Limited, fits, differs, too-deep, step, limit, then-value-within, join-within}
 use Rattle.hedge.specs.Schema.{RulesBelow, EndsBelow}
 use Rattle.hedge.specs.Operations.{relations, unit}

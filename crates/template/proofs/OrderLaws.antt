@@ -1,6 +1,6 @@
 -- The first fault of a list of tests: of two lists after each other, of a list without a fault, and of a chain of single tests.
 -- By cases on the fault that is there already, or by induction on the tests that come first. Assumes nothing.
-use mathlib.Core.Path.{_≡_, refl, _∙_, sym}
+use mathlib.Core.Path.{_≡_, refl, _∙_}
 use mathlib.Core.Bool.{Bool, true, false, _||_}
 use mathlib.Core.List.{List, [], _∷_, _++_}
 use Prim.Native.Nat.{ℕ}

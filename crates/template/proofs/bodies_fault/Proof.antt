@@ -6,7 +6,7 @@ use Prim.Native.Nat.{ℕ}
 use native.Mathlib.Omega.{arith}
 use denote.Ref.{now}
 use borrow.Author.Needs.{needs}
-use Rattle.template.specs.Order.{firstFault, width, body, bodies}
+use Rattle.template.specs.Order.{firstFault, width, bodies}
 use Rattle.template.specs.declared.Shape.{Shape}
 use Rattle.template.specs.declared.Body.the-variants.{Templates, Schema, Endings}
 use Rattle.template.specs.Layout.{ruleCount, schemaCount, endingCount}

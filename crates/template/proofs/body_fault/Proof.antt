@@ -30,7 +30,6 @@ loop-holds c =
 entry-fault-requires : tie.Need-entry-fault-requires Inv-loop μ-loop
 entry-fault-requires c κs =
     let l = c .before in
-    let s = l .before .before in
     let room = room-next _ _ _ _ _ (l .loop .inv .2) (omega arith) in
     (l .loop .inv .1, omega (arith, room))
 
@@ -54,7 +53,6 @@ width-requires c κs = search needs
 add-at : tie.Need-add-at Inv-loop μ-loop
 add-at c =
     let l = c .before .before .before .before .before in
-    let s = l .before .before in
     let room = room-next _ _ _ _ _ (l .loop .inv .2) (omega arith) in
     search needs
 

@@ -87,25 +87,26 @@ then-test-requires-7 c κs = search needs
 returns : tie.Need-returns
 unfolding contentsTests
 returns c =
-    let f = c .before .before .before .before .before .before .before in
-    let e = f .before .before in
-    let d = e .before .before in
-    let h = d .before .before in
-    let b = h .before .before in
-    let a = b .before .before in
-    let first = a .wide-half .ensures .0 ∙ a .before .half .ensures in
-    let rules = b .wide-half2 .ensures .0 ∙ b .before .half2 .ensures in
-    let second = h .wide-half3 .ensures .0 ∙ h .before .half3 .ensures in
-    let schema = d .wide-half4 .ensures .0 ∙ d .before .half4 .ensures in
-    let third = e .wide-half5 .ensures .0 ∙ e .before .half5 .ensures in
-    let endings = f .wide-half6 .ensures .0 ∙ f .before .half6 .ensures in
+    let endings-read = c .before .before .before .before .before .before .before in
+    let third-read = endings-read .before .before in
+    let schema-read = third-read .before .before in
+    let second-read = schema-read .before .before in
+    let rules-read = second-read .before .before in
+    let first-read = rules-read .before .before in
+    let first = first-read .wide-half .ensures .0 ∙ first-read .before .half .ensures in
+    let rules = rules-read .wide-half2 .ensures .0 ∙ rules-read .before .half2 .ensures in
+    let second = second-read .wide-half3 .ensures .0 ∙ second-read .before .half3 .ensures in
+    let schema = schema-read .wide-half4 .ensures .0 ∙ schema-read .before .half4 .ensures in
+    let third = third-read .wide-half5 .ensures .0 ∙ third-read .before .half5 .ensures in
+    let endings = endings-read .wide-half6 .ensures .0 ∙ endings-read .before .half6 .ensures in
+    let states = first-read .before .before .wide .ensures .0 in
     first-chain
     (tested (c .before .before .before .before .before .before .then-test .ensures) (rw first)
     (tested (c .before .before .before .before .before .then-test2 .ensures) (rw rules)
     (tested (c .before .before .before .before .then-test3 .ensures) (rw (second, rules))
     (tested (c .before .before .before .then-test4 .ensures) (rw schema)
     (tested (c .before .before .then-test5 .ensures) (rw (third, rules, schema))
-    (tested (c .before .then-test6 .ensures) (rw (endings, a .before .before .wide .ensures .0))
+    (tested (c .before .then-test6 .ensures) (rw (endings, ← states))
     (tested (c .then-test7 .ensures) (rw (rules, schema, endings)) ended)))))))
 
 pub contents-fault-spec : {M : Type 1} → statement M
