@@ -123,7 +123,167 @@ def files():
     bad(put(put(K, 44, 9), 19, 200), 19)
 
 
+def summary(ends=(), starts=(), relations=(0,), *, names=None):
+    """A summary's bytes: ends, starts, 16 names, 17 relations of eight bytes; and the numbers that a line shows of it."""
+    tags = list(ends) + list(starts) if names is None else list(names)
+    return len(ends), len(starts), tags + [0] * (16 - len(tags)), list(relations) + [0] * (17 - len(relations))
+
+
+def raw(s):
+    ends, starts, names, relations = s
+    return bytes([ends, starts]) + bytes(names) + b"".join(r.to_bytes(8, "little") for r in relations)
+
+
+def shown(s):
+    ends, starts, names, relations = s
+    return " ".join(map(str, [ends, starts] + names + relations))
+
+
+NONE = summary()  # the summary of a refusal, and a summary that no fragment has
+
+
+def page(data, answer, number=0):
+    case("P", data, f"{answer} {number} ")
+
+
+def fragment(data, s, answer=0, number=0):
+    case("G", data, f"{answer} {number} {shown(s)}")
+
+
+def join(left, right, s, answer=0):
+    case("J", bytes([len(left)]) + bytes(left) + bytes(right), f"{answer} 0 {shown(s)}")
+
+
+def join_structs(left, right, s, answer=0, number=0):
+    case("S", raw(left) + raw(right), f"{answer} {number} {shown(s)}")
+
+
+def net(s, depth, answer=0, number=0):
+    case("N", raw(s), f"{answer} {number} {depth}")
+
+
+def pages():
+    sound(K, 2, 3, 2, 3, 4, 1)
+    # the cases of document 01
+    page([1, 33], 0)
+    page([], 14)
+    page([0, 1, 33, 32], 0)
+    page([0, 32, 1, 33], 0)
+    page([1, 33, 1, 33], 14)
+    page([0, 33], 11, 1)
+    page([0], 13)
+    page([32], 13)
+    page([2], 10, 0)
+    page([0] * 15 + [1, 33] + [32] * 15, 0)
+    page([0] * 17, 12, 16)
+    # no tag below A: 2 to 31, 34 to 63, and all from 64 up
+    for byte in (2, 31, 34, 63, 64, 65, 127, 128, 255):
+        page([0, byte], 10, 1)
+    # 12 is judged after each tag, and ends count as well as starts
+    page([0] * 16 + [0, 32], 12, 16)
+    page([0] * 16 + [32] * 16, 14)
+    page([32] * 16, 13)
+    page([32] * 17, 12, 16)
+    page([32] * 9 + [0] * 8, 12, 16)
+    page([32] * 9 + [0] * 7, 13)
+    # an unmatched end is no refusal at once; the earliest place decides
+    page([32, 0, 33], 11, 2)
+    page([0, 33, 2], 11, 1)
+    page([2, 0, 33], 10, 0)
+    page([0, 1, 32], 11, 2)
+    page([33, 1, 33], 13)
+    # both are balanced; only one b is allowed, and one is asked for
+    page([0, 32], 14)
+    page([1, 1, 33, 33], 14)
+    page([1, 0, 32, 33], 0)
+
+
+def fragments():
+    unit = 513
+    fragment([], summary((), (), (unit,)))
+    fragment([1, 33], summary((), (), (2,)))
+    fragment([32, 0], summary((0,), (0,), (unit, unit, unit)))
+    fragment([1, 33, 0], summary((), (0,), (2, unit)))
+    fragment([33, 1, 33], summary((1,), (), (unit, 2)))
+    fragment([1, 33, 1, 33], summary((), (), (0,)))
+    fragment([0, 1, 32], NONE, 11, 2)
+    fragment([0, 64], NONE, 10, 1)
+    fragment([0] * 16, summary((), [0] * 16, [unit] * 17))
+    fragment([0] * 17, NONE, 12, 16)
+    # in one go ten 0, ten 0 and twenty 32 are too deep at place 16; joined they are not
+    fragment([0] * 20 + [32] * 20, NONE, 12, 16)
+    join([0] * 10, [0] * 10 + [32] * 20, summary((), (), (unit,)))
+    join([0] * 16, [0] + [32] * 17, summary((), (), (unit,)))
+    join([0] * 16, [0, 32], summary((), [0] * 16, [unit] * 17))
+    join([0, 1], [33, 32], summary((), (), (2,)))
+    join([0], [33], NONE, 11)
+    join([0] * 9, [0] * 7, summary((), [0] * 16, [unit] * 17))
+    join([0] * 9, [0] * 8, NONE, 12)
+    join([0] * 16, [32] * 16, summary((), (), (unit,)))
+    # the innermost start first, and so outward
+    join([0, 1], [32], NONE, 11)
+    join([0, 1], [33, 33], NONE, 11)
+    join([1, 0], [32], summary((), (1,), (unit, unit)))
+    # a mismatch comes before too deep
+    join([0] * 9, [33] + [0] * 15, NONE, 11)
+    join([32] * 9, [32] * 8, NONE, 12)
+    join([32], [0], summary((0,), (0,), (unit, unit, unit)))
+    # a relation in its order: one b on the left, none on the right
+    join([1, 33, 0], [32, 1, 33], summary((), (), (0,)))
+    join([0, 1, 33], [32], summary((), (), (2,)))
+
+
+def structs():
+    # summaries that no fragment has
+    join_structs(NONE, NONE, NONE)
+    join_structs(summary((), (0,), (0, 0)), summary((0,), (), (0, 0)), NONE)
+    join_structs(summary((), (0,), (513, 2)), summary((0,), (), (513, 513)), summary((), (), (2,)))
+    join_structs(summary((), (), (1,)), summary((), (), (513,)), summary((), (), (1,)))
+    # no summary: too many tags, a name of A, a bit outside Q, an unused place that is not 0; on either side
+    wrong = [
+        summary([0] * 16, (0,), [0] * 17, names=[0] * 16),
+        summary([0] * 17, (), [0] * 17, names=[0] * 16),
+        (255, 255, [0] * 16, [0] * 17),
+        (1, 255, [0] * 16, [0] * 17),
+        summary((), (2,), (0, 0)),
+        summary((2,), (), (0, 0)),
+        summary((), (), (4,)),
+        summary((), (), (1 << 16,)),
+        summary((), (), (1 << 63,)),
+        summary((), (0,), (0, 1 << 10)),
+        summary((), (), (0,), names=[1]),
+        summary((), (0,), (0, 0), names=[0, 1]),
+        summary((), (), (0, 1)),
+        summary((), (0,), (0, 0, 513)),
+    ]
+    for s in wrong:
+        join_structs(s, NONE, NONE, 15)
+        join_structs(NONE, s, NONE, 15)
+        net(s, 0, 15)
+    net(NONE, 0)
+    net(summary((), [0] * 16, [0] * 17), 16)
+    net(summary([1] * 16, (), [0] * 17), -16)
+    net(summary((0,), (), (0, 0)), -1)
+    net(summary([0] * 8, [1] * 8, [0] * 17), 0)
+
+
+def bad_file():
+    # every call reads the whole file: a fault in a template rule that it does not use gives 7, before all others
+    bad(put(K, 16, 3), 16)
+    page([1, 33], 7, 16)
+    page([2], 7, 16)
+    fragment([1, 33], NONE, 7, 16)
+    case("S", raw(NONE) + raw(NONE), f"7 16 {shown(NONE)}")
+    case("S", raw(summary((), (2,), (0, 0))) + raw(NONE), f"7 16 {shown(NONE)}")
+    case("N", raw(NONE), "7 16 0")
+    case("N", raw(summary((), (2,), (0, 0))), "7 16 0")
+
+
 files()
+pages()
+fragments()
+structs()
+bad_file()
 here = os.path.join(os.path.dirname(__file__), "..", "crates", "cases")
 with open(os.path.join(here, "stdin"), "wb") as f:
     for letter, data, _ in cases:

@@ -1,14 +1,29 @@
 // Runs many cases from one standard input, and prints a line for each. A case is a letter, the 16-bit length of its bytes
-// (little-endian), and the bytes. F: a template file; its line is the answer, the number and, of a sound file, its numbers.
+// (little-endian), and the bytes. F is a template file, under which the cases after it stand; P a page; G a fragment; J two fragments to
+// join, the left one's length first; S two summaries to join; N a summary's net depth. tests/make_cases.py writes the cases.
 ghost use mathlib.Core.Path.{_≡_};
-ghost use Prim.Native.Nat.{_<_};
+ghost use Prim.Native.Nat.{_+_, _≤_, _<_};
+ghost use lib.ListN.{length};
 use libc::STDIN_FILENO;
 use libc::STDOUT_FILENO;
+
+// Where the next case stands, and the file that it stands under.
+struct Cursor {
+    at: usize,
+    from: usize,
+    to: usize,
+}
 
 fn wide(x: u8) -> usize
     ensures { λ r. ⌜ (r ≡ x) × (r < 256) ⌝ }
 {
     x as usize
+}
+
+fn long(x: u8) -> u64
+    ensures { λ r. ⌜ (r ≡ x) × (r < 256) ⌝ }
+{
+    x as u64
 }
 
 fn word(x: u64) {
@@ -45,33 +60,247 @@ fn show_file(file: &[u8]) {
     }
 }
 
-// The case at a place: answers where the next one starts, or the input's end.
-fn one(input: &[u8], at: usize) -> usize {
+fn answer(a: u64, number: usize) {
+    word(a);
+    word(number as u64);
+}
+
+fn show_page(file: &[u8], bytes: &[u8]) {
+    let r = page::read(file, bytes);
+    match r {
+        page::PageReply::Valid => answer(0, 0),
+        page::PageReply::BadFile(p) => answer(7, p),
+        page::PageReply::NotATag(p) => answer(10, p),
+        page::PageReply::Mismatch(p) => answer(11, p),
+        page::PageReply::TooDeep(p) => answer(12, p),
+        page::PageReply::Unmatched => answer(13, 0),
+        page::PageReply::NotDerived => answer(14, 0),
+    }
+    io::write_all(STDOUT_FILENO, b"\n");
+}
+
+// The counts, the names and the relations, all of them.
+fn show_summary(s: summary::Summary) {
+    word(s.ends as u64);
+    word(s.starts as u64);
+    let names = s.names;
+    let relations = s.relations;
+    let mut k = 0;
+    while k < 16 {
+        word(long(names[k]));
+        k += 1;
+    }
+    show_relations(relations);
+}
+
+fn show_relations(relations: [u64; 17]) {
+    let mut k = 0;
+    while k < 16 {
+        word(relations[k]);
+        k += 1;
+    }
+    last_word(relations[16]);
+}
+
+fn show_fragment(r: summary::FragmentReply) {
+    let a = r.answer;
+    match a {
+        summary::FragmentAnswer::Summarised => answer(0, 0),
+        summary::FragmentAnswer::BadFile(p) => answer(7, p),
+        summary::FragmentAnswer::NotATag(p) => answer(10, p),
+        summary::FragmentAnswer::Mismatch(p) => answer(11, p),
+        summary::FragmentAnswer::TooDeep(p) => answer(12, p),
+    }
+    let s = r.summary;
+    show_summary(s);
+}
+
+fn show_join(r: summary::JoinReply) {
+    let a = r.answer;
+    match a {
+        summary::JoinAnswer::Joined => answer(0, 0),
+        summary::JoinAnswer::BadFile(p) => answer(7, p),
+        summary::JoinAnswer::NoSummary => answer(15, 0),
+        summary::JoinAnswer::Mismatch => answer(11, 0),
+        summary::JoinAnswer::TooDeep => answer(12, 0),
+    }
+    let s = r.summary;
+    show_summary(s);
+}
+
+// Joins the summaries of two runs of bytes, the first as long as the first byte says.
+fn join_fragments(file: &[u8], bytes: &[u8]) {
+    if bytes.len() < 1 {
+        return;
+    }
+    let cut = 1 + wide(bytes[0]);
+    if bytes.len() < cut {
+        return;
+    }
+    let left = summary::fragment(file, &bytes[1..cut]);
+    let right = summary::fragment(file, &bytes[cut..]);
+    let l = left.summary;
+    let r = right.summary;
+    let j = summary::join(file, l, r);
+    show_join(j);
+}
+
+// The number of eight bytes at a place, the first lowest.
+fn relation_at(bytes: &[u8], at: usize) -> u64
+    requires { ⌜ at + 8 ≤ length (now bytes) ⌝ }
+{
+    let mut r = 0u64;
+    let mut k = 8;
+    while 0 < k {
+        k -= 1;
+        r = (r << 8) | long(bytes[at + k]);
+    }
+    r
+}
+
+// The struct that 154 bytes from a place on hold: ends, starts, 16 names, 17 relations of eight bytes.
+fn summary_at(bytes: &[u8], at: usize) -> summary::Summary
+    requires { ⌜ at + 154 ≤ length (now bytes) ⌝ }
+{
+    let mut names = [0u8; 16];
+    let mut relations = [0u64; 17];
+    let mut k = 0;
+    while k < 16 {
+        names[k] = bytes[at + 2 + k];
+        relations[k] = relation_at(bytes, at + 18 + 8 * k);
+        k += 1;
+    }
+    relations[16] = relation_at(bytes, at + 146);
+    summary::Summary {
+        ends: wide(bytes[at]),
+        starts: wide(bytes[at + 1]),
+        names: names,
+        relations: relations,
+    }
+}
+
+fn join_structs(file: &[u8], bytes: &[u8]) {
+    if bytes.len() < 308 {
+        return;
+    }
+    let left = summary_at(bytes, 0);
+    let right = summary_at(bytes, 154);
+    let j = summary::join(file, left, right);
+    show_join(j);
+}
+
+// The net depths that cases have, spelled out.
+fn show_net(z: i32) {
+    word(0);
+    word(0);
+    if z == -16 {
+        io::write_all(STDOUT_FILENO, b"-16\n");
+        return;
+    }
+    if z == -1 {
+        io::write_all(STDOUT_FILENO, b"-1\n");
+        return;
+    }
+    if z == 0 {
+        io::write_all(STDOUT_FILENO, b"0\n");
+        return;
+    }
+    if z == 16 {
+        io::write_all(STDOUT_FILENO, b"16\n");
+        return;
+    }
+    io::write_all(STDOUT_FILENO, b"another\n");
+}
+
+fn show_depth(file: &[u8], bytes: &[u8]) {
+    if bytes.len() < 154 {
+        return;
+    }
+    let s = summary_at(bytes, 0);
+    let d = summary::net_depth(file, s);
+    match d {
+        summary::DepthReply::Net(z) => show_net(z),
+        summary::DepthReply::BadFile(p) => {
+            answer(7, p);
+            last_word(0);
+        }
+        summary::DepthReply::NoSummary => {
+            answer(15, 0);
+            last_word(0);
+        }
+    }
+}
+
+fn run(letter: u8, file: &[u8], bytes: &[u8]) {
+    match letter {
+        b'F' => show_file(bytes),
+        b'P' => show_page(file, bytes),
+        b'G' => {
+            let r = summary::fragment(file, bytes);
+            show_fragment(r);
+        }
+        b'J' => join_fragments(file, bytes),
+        b'S' => join_structs(file, bytes),
+        b'N' => show_depth(file, bytes),
+        _ => (),
+    }
+}
+
+// The case at a place: answers where the next one starts, or the input's end, and its file.
+fn one(input: &[u8], c: Cursor) -> Cursor {
     let n = input.len();
+    let at = c.at;
+    let end = Cursor {
+        at: n,
+        from: 0,
+        to: 0,
+    };
     if n < 3 {
-        return n;
+        return end;
     }
     if n - 3 < at {
-        return n;
+        return end;
     }
+    let letter = input[at];
     let len = wide(input[at + 1]) + 256 * wide(input[at + 2]);
     let from = at + 3;
     if n - from < len {
-        return n;
+        return end;
     }
     let to = from + len;
-    show_file(&input[from..to]);
-    to
+    let file_from = c.from;
+    let file_to = c.to;
+    if file_to <= n {
+        if file_from <= file_to {
+            run(letter, &input[file_from..file_to], &input[from..to]);
+        }
+    }
+    if letter == b'F' {
+        return Cursor {
+            at: to,
+            from: from,
+            to: to,
+        };
+    }
+    Cursor {
+        at: to,
+        from: file_from,
+        to: file_to,
+    }
 }
 
 fn all(input: &[u8]) {
-    let mut at = 0;
+    let mut c = Cursor {
+        at: 0,
+        from: 0,
+        to: 0,
+    };
     let mut turns: u32 = 0;
     while turns < 10000 {
-        if input.len() <= at {
+        if input.len() <= c.at {
             return;
         }
-        at = one(input, at);
+        c = one(input, c);
         turns += 1;
     }
 }

@@ -5,10 +5,10 @@ use Rattle.cases.proofs.all.Statement.{statement}
 use Rattle.cases.proofs.all.Tie as tie
 
 abbrev Inv-loop : tie.InvT-loop
-Inv-loop input at₀ turns₀ at turns = turns ≤ 10000
+Inv-loop input c₀ turns₀ c turns = turns ≤ 10000
 
 abbrev μ-loop : tie.MeasureT-loop
-μ-loop input at₀ turns₀ at turns = 10000 - turns
+μ-loop input c₀ turns₀ c turns = 10000 - turns
 
 loop-holds : tie.Need-loop-holds Inv-loop μ-loop
 loop-holds c = search needs
@@ -33,4 +33,14 @@ returns-2 c = search needs
 
 pub all-spec : {M : Type 1} → statement M
 all-spec =
-    tie.close (tie.spec Inv-loop μ-loop loop-holds returns one-requires add-turns loop-less loop-again returns-2)
+    tie.close
+    (tie.spec
+    Inv-loop
+    μ-loop
+    loop-holds
+    returns
+    one-requires
+    add-turns
+    loop-less
+    loop-again
+    returns-2)

@@ -1,0 +1,62 @@
+-- The loop ends with its 16 turns; it makes no claim about what is printed. Assumes nothing.
+use Prim.Native.Nat.{_≤_, _-_}
+use borrow.Author.Needs.{needs}
+use Rattle.cases.proofs.show_summary.Statement.{statement}
+use Rattle.cases.proofs.show_summary.Tie as tie
+
+abbrev Inv-loop : tie.InvT-loop
+Inv-loop names relations k₀ k = k ≤ 16
+
+abbrev μ-loop : tie.MeasureT-loop
+μ-loop names relations k₀ k = 16 - k
+
+word-requires : tie.Need-word-requires Inv-loop μ-loop
+word-requires c κs = search needs
+
+word-requires-2 : tie.Need-word-requires-2 Inv-loop μ-loop
+word-requires-2 c κs = search needs
+
+loop-holds : tie.Need-loop-holds Inv-loop μ-loop
+loop-holds c = search needs
+
+array-read-long : tie.Need-array-read-long Inv-loop μ-loop
+array-read-long c = search needs
+
+long-requires : tie.Need-long-requires Inv-loop μ-loop
+long-requires c κs = search needs
+
+word-requires-3 : tie.Need-word-requires-3 Inv-loop μ-loop
+word-requires-3 c κs = search needs
+
+add-k : tie.Need-add-k Inv-loop μ-loop
+add-k c = search needs
+
+loop-less : tie.Need-loop-less Inv-loop μ-loop
+loop-less c = search needs
+
+loop-again : tie.Need-loop-again Inv-loop μ-loop
+loop-again c = search needs
+
+show-relations-requires : tie.Need-show-relations-requires Inv-loop μ-loop
+show-relations-requires c κs = search needs
+
+returns : tie.Need-returns Inv-loop μ-loop
+returns c = search needs
+
+pub show-summary-spec : {M : Type 1} → statement M
+show-summary-spec =
+    tie.close
+    (tie.spec
+    Inv-loop
+    μ-loop
+    word-requires
+    word-requires-2
+    loop-holds
+    array-read-long
+    long-requires
+    word-requires-3
+    add-k
+    loop-less
+    loop-again
+    show-relations-requires
+    returns)

@@ -1,0 +1,4 @@
+pub mod EndingLaws
+pub mod PageLaws
+pub mod UniqueLaws
+pub mod FragmentLaws

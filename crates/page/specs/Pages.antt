@@ -1,0 +1,50 @@
+-- What a page's reply must be. Document 01: "A page is a fragment with two tests at its end"; "For a page or fragment: 7, then the earliest
+-- place with 10, 11 or 12, then for a page 13, 14": 13, page ends with tags unmatched; 14, balanced, not derived. "A page is valid when it
+-- is balanced and state 0 derives it."
+use mathlib.Core.Path.{_≡_}
+use mathlib.Core.List.{List}
+use Prim.Native.Nat.{ℕ}
+use Rattle.words.specs.Tags.{Tag}
+use Rattle.words.specs.Balance.{Balanced}
+use Rattle.hedge.specs.Schema.{Derives}
+use Rattle.hedge.specs.Schema.{Valid as IsValid}
+use Rattle.template.specs.Layout.{names}
+use Rattle.template.specs.Order.{IsSound, reading}
+use Rattle.template.specs.declared.Reading.the-variants.{Bad}
+use Rattle.reader.specs.Reads.{Spelled, AllReadable, refused, no-tag, mismatch, too-many}
+use Rattle.summary.specs.Fragments.{schemaOf, binoidOf, ReadUnder}
+use Rattle.page.specs.declared.PageReply.{PageReply}
+use Rattle.page.specs.declared.PageReply.the-variants.{Valid, BadFile, NotATag, Mismatch, TooDeep, Unmatched, NotDerived}
+
+-- nothing is refused while the bytes are read, and they spell a word of which P holds
+abbrev pub ReadWhole : List ℕ → List ℕ → (List Tag → Type 0) → Type 0
+ReadWhole f bytes P =
+    IsSound f × AllReadable (names f) (binoidOf f) 16 bytes × ((w : List Tag) × Spelled (names f) bytes w × P w)
+
+abbrev pub PageSays : List ℕ → List ℕ → PageReply → Type 0
+PageSays f bytes Valid = ReadWhole f bytes (λ w. IsValid (schemaOf f) w)
+PageSays f bytes (BadFile p) = reading f ≡ Bad p
+PageSays f bytes (NotATag p) = IsSound f × ReadUnder f bytes (refused no-tag p)
+PageSays f bytes (Mismatch p) = IsSound f × ReadUnder f bytes (refused mismatch p)
+PageSays f bytes (TooDeep p) = IsSound f × ReadUnder f bytes (refused too-many p)
+PageSays f bytes Unmatched = ReadWhole f bytes (λ w. Balanced w → ⊥)
+PageSays f bytes NotDerived = ReadWhole f bytes (λ w. Balanced w × (Derives (schemaOf f) 0 w → ⊥))
+
+-- the reply in document 01's numbers
+abbrev pub answer : PageReply → ℕ
+answer Valid = 0
+answer (BadFile p) = 7
+answer (NotATag p) = 10
+answer (Mismatch p) = 11
+answer (TooDeep p) = 12
+answer Unmatched = 13
+answer NotDerived = 14
+
+abbrev pub number : PageReply → ℕ
+number Valid = 0
+number (BadFile p) = p
+number (NotATag p) = p
+number (Mismatch p) = p
+number (TooDeep p) = p
+number Unmatched = 0
+number NotDerived = 0

@@ -1,0 +1,11 @@
+pub mod FitLaws
+pub mod PackingLaws
+pub mod SignedLaws
+pub mod ShapeLaws
+pub mod FragmentLaws
+pub mod JoinedLaws
+pub mod UniqueLaws
+pub mod NamedLaws
+pub mod PlaceLaws
+pub mod MeaningLaws
+pub mod NetLaws

@@ -1,0 +1,177 @@
+-- What the summaries mean. The summary of a word under a file packs the word's reduced form; a fragment's summary is that of the word
+-- that its bytes spell; and joining the summaries of two words gives the summary of the two in a row, or says exactly why there is none:
+-- the join of two forms is the form of the two words in a row (words/proofs/JoinLaws.antt), and a word has one form or is mismatched.
+-- Every summary that is made is a summary under the file. Assumes nothing.
+use mathlib.Core.Path.{_≡_, refl, subst}
+use mathlib.Core.List.{List, _++_}
+use mathlib.Core.Logic.{_↔_}
+use Prim.Native.Nat.{ℕ, _≤_, _<_}
+use native.Mathlib.Omega.{arith}
+use Rattle.words.specs.Tags.{Tag}
+use Rattle.words.specs.Balance.{Mismatched}
+use Rattle.words.specs.Reduced.{Stack, tags, Reduced}
+use Rattle.words.proofs.ReducedLaws.{reduced-good}
+use Rattle.words.proofs.ReadLaws.{reduced-unique}
+use Rattle.words.proofs.MismatchLaws.{never-both}
+use Rattle.words.proofs.JoinLaws.{join-good, join-reduced, join-differ}
+use Rattle.template.specs.Layout.{names, states}
+use Rattle.template.specs.Order.{IsSound}
+use Rattle.reader.specs.Reads.{Spelled}
+use Rattle.reader.proofs.ReadsLaws.{reads-finding}
+use Rattle.summary.specs.declared.Summary.{Summary}
+use Rattle.summary.specs.declared.FragmentAnswer.the-variants.{Summarised}
+use Rattle.summary.specs.declared.FragmentReply.{FragmentReply}
+use Rattle.summary.specs.declared.JoinAnswer.{JoinAnswer}
+use Rattle.summary.specs.declared.JoinAnswer.the-variants.{Joined, BadFile, NoSummary, Mismatch, TooDeep}
+use Rattle.summary.specs.declared.JoinReply.{JoinReply}
+use Rattle.summary.specs.Packing.{form, last, Packs}
+use Rattle.summary.specs.Fragments.{binoidOf, FragmentAnswers, FragmentSays}
+use Rattle.summary.specs.Joins.{SummaryUnder, JoinAnswers, JoinSays}
+use Rattle.summary.proofs.PackingLaws.{packs-own}
+use Rattle.summary.proofs.ShapeLaws.{lawsOf, sound-not-bad}
+use Rattle.summary.proofs.UniqueLaws.{packs-unique}
+use Rattle.summary.proofs.NamedLaws.{WordBelow, word-append, spelled-below, reduced-below, joined-below}
+use Rattle.summary.proofs.PlaceLaws.{packed-summary, summary-below, summary-good}
+
+-- the struct is the summary of the word, whose names are the file's: it packs the word's reduced form
+pub record SummaryOf (f : List ℕ) (w : List Tag) (s : Summary) : Type 0 where
+  pub below : WordBelow (names f) w
+  pub reduces : Reduced (binoidOf f) w (form s) (last s)
+  pub packs : Packs s (form s) (last s)
+
+pub summary-of : (f : List ℕ) {w : List Tag} {s : Summary} {t : Stack ℕ} {c : ℕ} → WordBelow (names f) w → Reduced (binoidOf f) w t c
+    → Packs s t c → SummaryOf f w s
+summary-of f b r p = record { below = b; reduces = rw (p .form-is, p .last-is) r; packs = packs-own p }
+
+module _ (f : List ℕ) (sound : IsSound f) where
+  -- ---- the summary of a word
+
+  pub summary-of-unique : {w : List Tag} {s s′ : Summary} → SummaryOf f w s → SummaryOf f w s′ → s ≡ s′
+  summary-of-unique {s = s} {s′ = s′} p q =
+      let (e, d) = reduced-unique (binoidOf f) (lawsOf f sound) (p .reduces) (q .reduces) in
+      packs-unique (p .packs) (rw (← e, ← d) at (q .packs))
+
+  pub summary-of-under : {w : List Tag} {s : Summary} → SummaryOf f w s → SummaryUnder f s
+  summary-of-under {s = s} p =
+      let (g, h) = reduced-good (binoidOf f) (lawsOf f sound) (p .reduces) in
+      packed-summary (names f) (states f) s (p .packs) (reduced-below (names f) (binoidOf f) (p .reduces) (p .below)) g h
+
+-- ---- fragments
+
+module _ (f bytes : List ℕ) (r : FragmentReply) (says : FragmentSays f bytes r) (made : r .answer ≡ Summarised) where
+  summarised : FragmentAnswers f bytes Summarised (r .summary)
+  summarised = subst (λ a. FragmentAnswers f bytes a (r .summary)) made says
+
+  pub fragment-sound : IsSound f
+  fragment-sound = summarised .0
+
+  -- the reply holds the summary of the word that the bytes spell
+  pub fragment-summary-of : (w : List Tag) × Spelled (names f) bytes w × SummaryOf f w (r .summary)
+  fragment-summary-of =
+      let (sound, (t, c, read, p)) = summarised in
+      let (all, formed) = reads-finding (names f) (binoidOf f) 16 read in
+      (formed .word, formed .spelled, summary-of f (spelled-below (names f) (formed .spelled)) (formed .reduced) p)
+
+  pub fragment-under : SummaryUnder f (r .summary)
+  fragment-under = summary-of-under f fragment-sound (fragment-summary-of .2)
+
+-- ---- joins
+
+-- a joined summary is a summary, of whichever two
+module _ (f : List ℕ) (left right : Summary) where
+  joined-under-file : (s : Summary) → JoinAnswers f left right Joined s → SummaryUnder f s
+  joined-under-file s ((sound, l, r), (t, c, o, k, p)) =
+      let (gl, hl) = summary-good (names f) (states f) left l in
+      let (gr, hr) = summary-good (names f) (states f) right r in
+      let (g, h) = join-good (binoidOf f) (lawsOf f sound) (form left) (form right) t (last left) (last right) c gl hl gr hr o in
+      packed-summary (names f) (states f) s p
+      (joined-below (names f) (binoidOf f) (form left) (form right) t (last left) (last right) c
+      (summary-below (names f) (states f) left l) (summary-below (names f) (states f) right r) o)
+      g h
+
+  pub joined-under : (r : JoinReply) → JoinSays f left right r → r .answer ≡ Joined → SummaryUnder f (r .summary)
+  joined-under r says e = joined-under-file (r .summary) (subst (λ a. JoinAnswers f left right a (r .summary)) e says)
+
+-- two words, whose summaries are joined
+module _ (f : List ℕ) (sound : IsSound f) {u v : List Tag} {left right : Summary} (p : SummaryOf f u left) (q : SummaryOf f v right) where
+  -- the two in a row reduce to at most 16 tags, or to more
+  abbrev pub Fits : Type 0
+  Fits = (t : Stack ℕ) × (c : ℕ) × Reduced (binoidOf f) (u ++ v) t c × (tags t ≤ 16)
+
+  abbrev pub Deep : Type 0
+  Deep = (t : Stack ℕ) × (c : ℕ) × Reduced (binoidOf f) (u ++ v) t c × (16 < tags t)
+
+  abbrev Means : JoinAnswer → Summary → Type 0
+  Means Joined s = Fits × SummaryOf f (u ++ v) s
+  Means (BadFile i) s = ⊥
+  Means NoSummary s = ⊥
+  Means Mismatch s = Mismatched (u ++ v)
+  Means TooDeep s = Deep
+
+  join-means : (a : JoinAnswer) (s : Summary) → JoinAnswers f left right a s → Means a s
+  join-means Joined s (h, (t, c, o, k, z)) =
+      let r = join-reduced (binoidOf f) (lawsOf f sound) (p .reduces) (q .reduces) t c .0 o in
+      ((t, c, r, k), summary-of f (word-append (names f) u v (p .below) (q .below)) r z)
+  join-means (BadFile i) s (e, z) = sound-not-bad f i sound e
+  join-means NoSummary s (h, n, z) = n (summary-of-under f sound p) (summary-of-under f sound q)
+  join-means Mismatch s (h, o, z) = join-differ (binoidOf f) (lawsOf f sound) (p .reduces) (q .reduces) .0 o
+  join-means TooDeep s (h, (t, c, o, k), z) =
+      (t, c, join-reduced (binoidOf f) (lawsOf f sound) (p .reduces) (q .reduces) t c .0 o, k)
+
+  -- of the three one at most is so
+
+  fits-or-deep : Fits → Deep → ⊥
+  fits-or-deep (t, c, r, k) (s, d, m, l) =
+      let e : t ≡ s = reduced-unique (binoidOf f) (lawsOf f sound) r m .0 in
+      let j : tags s ≤ 16 = subst (λ t. tags t ≤ 16) e k in
+      omega arith
+
+  clash-or-reduced : {t : Stack ℕ} {c : ℕ} → Mismatched (u ++ v) → Reduced (binoidOf f) (u ++ v) t c → ⊥
+  clash-or-reduced m r = never-both (binoidOf f) (lawsOf f sound) r m
+
+  means-joined : (a : JoinAnswer) (s : Summary) → Means a s → Fits → a ≡ Joined
+  means-joined Joined s m h = refl
+  means-joined (BadFile i) s m h = absurd m
+  means-joined NoSummary s m h = absurd m
+  means-joined Mismatch s m (t, c, r, k) = absurd (clash-or-reduced m r)
+  means-joined TooDeep s m h = absurd (fits-or-deep h m)
+
+  means-mismatch : (a : JoinAnswer) (s : Summary) → Means a s → Mismatched (u ++ v) → a ≡ Mismatch
+  means-mismatch Joined s ((t, c, r, k), z) h = absurd (clash-or-reduced h r)
+  means-mismatch (BadFile i) s m h = absurd m
+  means-mismatch NoSummary s m h = absurd m
+  means-mismatch Mismatch s m h = refl
+  means-mismatch TooDeep s (t, c, r, k) h = absurd (clash-or-reduced h r)
+
+  means-deep : (a : JoinAnswer) (s : Summary) → Means a s → Deep → a ≡ TooDeep
+  means-deep Joined s m h = absurd (fits-or-deep (m .0) h)
+  means-deep (BadFile i) s m h = absurd m
+  means-deep NoSummary s m h = absurd m
+  means-deep Mismatch s m (t, c, r, k) = absurd (clash-or-reduced m r)
+  means-deep TooDeep s m h = refl
+
+  -- the replies
+  module _ (r : JoinReply) (says : JoinSays f left right r) where
+    meaning : Means (r .answer) (r .summary)
+    meaning = join-means (r .answer) (r .summary) says
+
+    pub joined-iff : (r .answer ≡ Joined) ↔ Fits
+    joined-iff = (
+      λ e. subst (λ a. Means a (r .summary)) e meaning .0,
+      means-joined (r .answer) (r .summary) meaning,
+    )
+
+    pub joined-summary-of : r .answer ≡ Joined → SummaryOf f (u ++ v) (r .summary)
+    joined-summary-of e = subst (λ a. Means a (r .summary)) e meaning .1
+
+    pub mismatch-iff : (r .answer ≡ Mismatch) ↔ Mismatched (u ++ v)
+    mismatch-iff = (
+      λ e. subst (λ a. Means a (r .summary)) e meaning,
+      means-mismatch (r .answer) (r .summary) meaning,
+    )
+
+    pub deep-iff : (r .answer ≡ TooDeep) ↔ Deep
+    deep-iff = (
+      λ e. subst (λ a. Means a (r .summary)) e meaning,
+      means-deep (r .answer) (r .summary) meaning,
+    )

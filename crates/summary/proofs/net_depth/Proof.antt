@@ -1,0 +1,71 @@
+-- A bad file is refused with its place. Of a sound one the numbers are the file's, so the test says whether the struct is a summary
+-- under it; a summary's counts give its net depth. Assumes nothing.
+use mathlib.Core.Path.{_∙_, sym}
+use borrow.Author.Needs.{needs}
+use Rattle.stack.proofs.HeldLaws.{net-held}
+use Rattle.summary.proofs.ShapeLaws.{read-is, shape-sound, states-few, passed-summary, failed-summary}
+use Rattle.summary.proofs.SignedLaws.{difference-again}
+use Rattle.summary.proofs.net_depth.Statement.{statement}
+use Rattle.summary.proofs.net_depth.Tie as tie
+
+read-requires : tie.Need-read-requires
+read-requires c κs = search needs
+
+enum-known-r : tie.Need-enum-known-r
+enum-known-r c = search needs
+
+enum-known-r-2 : tie.Need-enum-known-r-2
+enum-known-r-2 c = search needs
+
+wide-requires : tie.Need-wide-requires
+wide-requires c κs = search needs
+
+is-summary-requires : tie.Need-is-summary-requires
+is-summary-requires c κs =
+    let read = c .before .before .before .before .read in
+    let known = c .before .before .r2 .given in
+    states-few _ _ (read-is _ _ _ (read .ensures) (known .1)) (c .wide .result) (c .wide .ensures)
+
+returns : tie.Need-returns
+returns c =
+    let read = c .before .before .before .before .before .before .read in
+    let known = c .before .before .before .before .r2 .given in
+    let wide = c .before .before .wide in
+    let test = c .before .is-summary in (
+      shape-sound _ _ (read-is _ _ _ (read .ensures) (known .1)),
+      failed-summary _ _ (read-is _ _ _ (read .ensures) (known .1)) (wide .result) (wide .ensures) _ (test .result) (test .ensures)
+          (c .if1 .taken),
+    )
+
+difference-requires : tie.Need-difference-requires
+difference-requires c κs =
+    let read = c .before .before .before .before .before .before .read in
+    let known = c .before .before .before .before .r2 .given in
+    let wide = c .before .before .wide in
+    let test = c .before .is-summary in
+    passed-summary _ _ (read-is _ _ _ (read .ensures) (known .1)) (wide .result) (wide .ensures) _ (test .result) (test .ensures)
+    (c .if1 .left) .few
+
+returns-2 : tie.Need-returns-2
+returns-2 c = sym (c .before .before .before .read .ensures) ∙ c .before .r .given .1
+
+returns-3 : tie.Need-returns-3
+returns-3 c =
+    let s = c .before .before .before .before .before .before .before .before .before .args .s in
+    let read = c .before .before .before .before .before .before .before .read in
+    let known = c .before .before .before .before .before .r2 .given in
+    let wide = c .before .before .before .wide in
+    let test = c .before .before .is-summary in
+    let summary = passed-summary _ _ (read-is _ _ _ (read .ensures) (known .1)) (wide .result) (wide .ensures) s (test .result)
+    (test .ensures) (c .before .if1 .left) in (
+      shape-sound _ _ (read-is _ _ _ (read .ensures) (known .1)),
+      summary,
+      difference-again (s .starts) (s .ends) (summary .few) (c .difference .result) (c .difference .ensures)
+          ∙ sym (net-held (s .ends) (s .starts) (s .names) (s .relations)),
+    )
+
+pub net-depth-spec : {M : Type 1} → statement M
+net-depth-spec =
+    tie.close (
+    tie.spec read-requires enum-known-r enum-known-r-2 wide-requires is-summary-requires returns difference-requires returns-2 returns-3
+    )

@@ -1,0 +1,39 @@
+-- What a fragment's reply must be. Document 01, "Answer numbers": "For a page or fragment: 7, then the earliest place with 10, 11 or 12";
+-- "A fragment that is read without refusal gets exactly their reduced form" (the request); "Any refusal's summary is all zeros."
+use mathlib.Core.Path.{_≡_}
+use mathlib.Core.List.{List}
+use Prim.Native.Nat.{ℕ}
+use Rattle.words.specs.Binoid.{Binoid}
+use Rattle.words.specs.Reduced.{Stack}
+use Rattle.hedge.specs.Schema.{Schema, schema}
+use Rattle.hedge.specs.Operations.{relations}
+use Rattle.template.specs.Layout.{names, states, schemaRules, endingStates}
+use Rattle.template.specs.Order.{IsSound, reading}
+use Rattle.template.specs.declared.Reading.the-variants.{Bad}
+use Rattle.summary.specs.declared.Summary.{Summary}
+use Rattle.summary.specs.declared.FragmentAnswer.{FragmentAnswer}
+use Rattle.summary.specs.declared.FragmentAnswer.the-variants.{Summarised, BadFile, NotATag, Mismatch, TooDeep}
+use Rattle.summary.specs.declared.FragmentReply.{FragmentReply}
+use Rattle.summary.specs.Packing.{Packs, zeros}
+use Rattle.reader.specs.Reads.{Reads, Found, whole, refused, no-tag, mismatch, too-many}
+
+-- the schema of a file, and the binoid of its relations
+abbrev pub schemaOf : List ℕ → Schema
+schemaOf f = schema (states f) (schemaRules f) (endingStates f)
+
+abbrev pub binoidOf : List ℕ → Binoid
+binoidOf f = relations 8 (states f) (schemaRules f) (endingStates f)
+
+-- what reading the bytes under the file finds
+abbrev pub ReadUnder : List ℕ → List ℕ → Found ℕ → Type 0
+ReadUnder f bytes found = Reads (names f) (binoidOf f) 16 bytes found
+
+abbrev pub FragmentAnswers : List ℕ → List ℕ → FragmentAnswer → Summary → Type 0
+FragmentAnswers f bytes Summarised s = IsSound f × ((t : Stack ℕ) × (c : ℕ) × ReadUnder f bytes (whole t c) × Packs s t c)
+FragmentAnswers f bytes (BadFile p) s = (reading f ≡ Bad p) × (s ≡ zeros)
+FragmentAnswers f bytes (NotATag p) s = IsSound f × ReadUnder f bytes (refused no-tag p) × (s ≡ zeros)
+FragmentAnswers f bytes (Mismatch p) s = IsSound f × ReadUnder f bytes (refused mismatch p) × (s ≡ zeros)
+FragmentAnswers f bytes (TooDeep p) s = IsSound f × ReadUnder f bytes (refused too-many p) × (s ≡ zeros)
+
+abbrev pub FragmentSays : List ℕ → List ℕ → FragmentReply → Type 0
+FragmentSays f bytes r = FragmentAnswers f bytes (r .answer) (r .summary)

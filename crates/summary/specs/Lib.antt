@@ -1,0 +1,4 @@
+pub mod Packing
+pub mod Fragments
+pub mod Joins
+pub mod Answers

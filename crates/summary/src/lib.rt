@@ -1,0 +1,304 @@
+// Fragment summaries: read from a run of bytes, joined, and their net depth. Any file, any bytes and any struct may be lent: each call
+// looks at them first, in document 01's order.
+ghost use mathlib.Core.Path.{_≡_};
+ghost use mathlib.Core.Bool.{true};
+ghost use mathlib.Core.Logic.{_↔_};
+ghost use Prim.Native.Nat.{_+_, _≤_, _<_};
+ghost use lib.Dec.{eqb, ltb};
+ghost use lib.IntN.{pos, _-ℤ_};
+ghost use lib.ListN.{length};
+ghost use Rattle.hedge.specs.Operations.{full, covers};
+ghost use Rattle.template.specs.Order.{reading};
+ghost use Rattle.template.specs.declared.Reading.the-variants.{Sound};
+ghost use Rattle.summary.specs.Packing.{zeros, IsSummary, every, pick, nameFits, valueFits, Small};
+ghost use Rattle.summary.specs.Fragments.{FragmentSays};
+ghost use Rattle.summary.specs.Joins.{SummaryUnder, JoinSays, DepthSays};
+
+// A reduced form: the numbers of its unmatched ends and starts, the names of the tags in their order, and the relation before each tag
+// and after the last.
+pub struct Summary {
+    pub ends: usize,
+    pub starts: usize,
+    pub names: [u8; 16],
+    pub relations: [u64; 17],
+}
+
+// What reading a fragment answers, with the place of the fault.
+pub enum FragmentAnswer {
+    Summarised,
+    BadFile(usize),
+    NotATag(usize),
+    Mismatch(usize),
+    TooDeep(usize),
+}
+
+// The answer, and beside it the summary, all zeros where it was refused.
+pub struct FragmentReply {
+    pub answer: FragmentAnswer,
+    pub summary: Summary,
+}
+
+// What joining answers.
+pub enum JoinAnswer {
+    Joined,
+    BadFile(usize),
+    NoSummary,
+    Mismatch,
+    TooDeep,
+}
+
+pub struct JoinReply {
+    pub answer: JoinAnswer,
+    pub summary: Summary,
+}
+
+// The net depth, or why there is none.
+pub enum DepthReply {
+    Net(i32),
+    BadFile(usize),
+    NoSummary,
+}
+
+fn wide(x: u8) -> usize
+    ensures { λ r. ⌜ r ≡ x ⌝ }
+{
+    x as usize
+}
+
+// The summary of a refusal.
+fn zeros() -> Summary
+    ensures { λ r. ⌜ r ≡ zeros ⌝ }
+{
+    Summary {
+        ends: 0,
+        starts: 0,
+        names: [0u8; 16],
+        relations: [0u64; 17],
+    }
+}
+
+// A refusal's reply.
+fn refused(answer: FragmentAnswer) -> FragmentReply
+    ensures { λ r. ⌜ (r .answer ≡ answer) × (r .summary ≡ zeros) ⌝ }
+{
+    let s = zeros();
+    FragmentReply {
+        answer: answer,
+        summary: s,
+    }
+}
+
+// Reads the bytes under a sound file of these numbers.
+pub fn summarise(file: &[u8], shape: template::Shape, bytes: &[u8]) -> FragmentReply
+    requires { ⌜ reading (now file) ≡ Sound shape ⌝ }
+    ensures { λ r. ⌜ FragmentSays (now (file .entry)) (now (bytes .entry)) r ⌝ }
+{
+    let schema = template::schema_rules(file, shape.templates, shape.schema);
+    let endings = template::ending_states(file, shape.templates, shape.schema, shape.endings);
+    let states = wide(shape.states);
+    let empty = hedge::unit(states);
+    let mut names = [0u8; 16];
+    let mut values = [0u64; 17];
+    values[0] = empty;
+    let p = reader::read_bytes(
+        schema,
+        endings,
+        states,
+        empty,
+        &mut names,
+        &mut values,
+        shape.names,
+        bytes,
+    );
+    match p {
+        reader::Progress::Done(e, s) => FragmentReply {
+            answer: FragmentAnswer::Summarised,
+            summary: Summary {
+                ends: e,
+                starts: s,
+                names: names,
+                relations: values,
+            },
+        },
+        reader::Progress::NotATag(i) => refused(FragmentAnswer::NotATag(i)),
+        reader::Progress::Mismatch(i) => refused(FragmentAnswer::Mismatch(i)),
+        reader::Progress::TooDeep(i) => refused(FragmentAnswer::TooDeep(i)),
+    }
+}
+
+// The summary of a fragment: 7, then the earliest place with 10, 11 or 12; else the reduced form.
+pub fn fragment(file: &[u8], bytes: &[u8]) -> FragmentReply
+    ensures { λ r. ⌜ FragmentSays (now (file .entry)) (now (bytes .entry)) r ⌝ }
+{
+    let r = template::read(file);
+    match r {
+        template::Reading::Bad(p) => refused(FragmentAnswer::BadFile(p)),
+        template::Reading::Sound(shape) => summarise(file, shape, bytes),
+    }
+}
+
+// A name in use is below the number of names, another is 0.
+fn name_fits(used: bool, name: u8, known: u8) -> bool
+    ensures { λ r. ⌜ r ≡ pick used (ltb name known) (eqb name 0) ⌝ }
+{
+    if used { name < known } else { name == 0 }
+}
+
+// The names in use are below the number of names, the others 0.
+fn names_fit(names: &[u8], n: usize, known: u8) -> bool
+    requires { ⌜ length (now names) ≡ 16 ⌝ }
+    ensures { λ r. ⌜ r ≡ every 16 (nameFits known n (now (names .entry))) ⌝ }
+{
+    let mut t = true;
+    let mut k = 0;
+    while k < 16 {
+        t = t & name_fits(k < n, names[k], known);
+        k += 1;
+    }
+    t
+}
+
+// A relation in use is covered by the relation of all pairs, another is 0.
+fn value_fits(used: bool, value: u64, full: u64) -> bool
+    ensures { λ r. ⌜ r ≡ pick used (covers full value) (eqb value 0) ⌝ }
+{
+    if used {
+        hedge::covers(full, value)
+    } else {
+        value == 0
+    }
+}
+
+// The relations in use stay within the states, the others are 0.
+fn values_fit(values: &[u64], n: usize, full: u64) -> bool
+    requires { ⌜ length (now values) ≡ 17 ⌝ }
+    ensures { λ r. ⌜ (r ≡ every 17 (valueFits full n (now (values .entry)))) × Small (now (values .entry)) ⌝ }
+{
+    let mut t = true;
+    let mut k = 0;
+    while k < 17 {
+        t = t & value_fits(k <= n, values[k], full);
+        k += 1;
+    }
+    t
+}
+
+// Is the struct a summary, with so many names and states?
+fn is_summary(s: Summary, known: u8, states: usize) -> bool
+    requires { ⌜ states ≤ 8 ⌝ }
+    ensures { λ r. ⌜ (r ≡ true) ↔ IsSummary known states s ⌝ }
+{
+    let ends = s.ends;
+    let starts = s.starts;
+    if 16 < ends {
+        return false;
+    }
+    if 16 - ends < starts {
+        return false;
+    }
+    let names = s.names;
+    let values = s.relations;
+    let n = ends + starts;
+    if !names_fit(&names, n, known) {
+        return false;
+    }
+    values_fit(&values, n, hedge::full(states))
+}
+
+fn join_refused(answer: JoinAnswer) -> JoinReply
+    ensures { λ r. ⌜ (r .answer ≡ answer) × (r .summary ≡ zeros) ⌝ }
+{
+    let s = zeros();
+    JoinReply {
+        answer: answer,
+        summary: s,
+    }
+}
+
+// Joins two summaries under a sound file of these numbers.
+fn join_summaries(file: &[u8], shape: template::Shape, left: Summary, right: Summary) -> JoinReply
+    requires { ⌜ reading (now file) ≡ Sound shape ⌝ }
+    requires { ⌜ SummaryUnder (now file) left ⌝ }
+    requires { ⌜ SummaryUnder (now file) right ⌝ }
+    ensures { λ r. ⌜ JoinSays (now (file .entry)) left right r ⌝ }
+{
+    let schema = template::schema_rules(file, shape.templates, shape.schema);
+    let endings = template::ending_states(file, shape.templates, shape.schema, shape.endings);
+    let states = wide(shape.states);
+    let empty = hedge::unit(states);
+    let mut names = left.names;
+    let mut values = left.relations;
+    let tags = right.names;
+    let relations = right.relations;
+    let n = right.ends + right.starts;
+    let t = stack::then_form(
+        schema,
+        endings,
+        states,
+        empty,
+        &mut names,
+        &mut values,
+        left.ends,
+        left.starts,
+        &tags,
+        &relations,
+        right.ends,
+        n,
+    );
+    match t {
+        stack::Step::Kept(e, s) => JoinReply {
+            answer: JoinAnswer::Joined,
+            summary: Summary {
+                ends: e,
+                starts: s,
+                names: names,
+                relations: values,
+            },
+        },
+        stack::Step::Mismatch(_, _) => join_refused(JoinAnswer::Mismatch),
+        stack::Step::TooDeep => join_refused(JoinAnswer::TooDeep),
+    }
+}
+
+// The summary of two fragments laid end to end, from their summaries: 7, 15, 11, 12; else the joined summary.
+pub fn join(file: &[u8], left: Summary, right: Summary) -> JoinReply
+    ensures { λ r. ⌜ JoinSays (now (file .entry)) left right r ⌝ }
+{
+    let r = template::read(file);
+    match r {
+        template::Reading::Bad(p) => join_refused(JoinAnswer::BadFile(p)),
+        template::Reading::Sound(shape) => {
+            if !is_summary(left, shape.names, wide(shape.states)) {
+                return join_refused(JoinAnswer::NoSummary);
+            }
+            if !is_summary(right, shape.names, wide(shape.states)) {
+                return join_refused(JoinAnswer::NoSummary);
+            }
+            join_summaries(file, shape, left, right)
+        }
+    }
+}
+
+// Starts minus ends.
+fn difference(starts: usize, ends: usize) -> i32
+    requires { ⌜ ends + starts ≤ 16 ⌝ }
+    ensures { λ r. ⌜ r ≡ pos starts -ℤ pos ends ⌝ }
+{
+    (starts as i32) - (ends as i32)
+}
+
+// The net depth of a summary: 7, 15; else starts minus ends.
+pub fn net_depth(file: &[u8], s: Summary) -> DepthReply
+    ensures { λ r. ⌜ DepthSays (now (file .entry)) s r ⌝ }
+{
+    let r = template::read(file);
+    match r {
+        template::Reading::Bad(p) => DepthReply::BadFile(p),
+        template::Reading::Sound(shape) => {
+            if !is_summary(s, shape.names, wide(shape.states)) {
+                return DepthReply::NoSummary;
+            }
+            DepthReply::Net(difference(s.starts, s.ends))
+        }
+    }
+}
