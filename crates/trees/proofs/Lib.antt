@@ -1,0 +1,11 @@
+pub mod HeightLaws
+pub mod MarkLaws
+pub mod UsefulLaws
+pub mod DistinctLaws
+pub mod EventLaws
+pub mod TableLaws
+pub mod RoundLaws
+pub mod PairLaws
+pub mod StableLaws
+pub mod VerdictLaws
+pub mod BudgetLaws

@@ -1,0 +1,4 @@
+pub mod Trees
+pub mod Events
+pub mod Verdict
+pub mod Results

@@ -1,0 +1,5 @@
+pub mod SlotLaws
+pub mod PassLaws
+pub mod StepLaws
+pub mod CloseLaws
+pub mod UsefulLaws
