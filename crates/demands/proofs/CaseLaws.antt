@@ -1,0 +1,126 @@
+-- Document 01's marked cases hold (specs/Cases.antt). Each case is run: the numbers that it states, and those that the computed replies
+-- (proofs/Replies.antt) give, are laid out as one line each; that all lines are the same is computed in one go; and a case whose line comes
+-- out as stated holds, since the computed replies meet their promises. Assumes nothing.
+use mathlib.Core.Path.{_≡_, refl, subst, sym}
+use mathlib.Core.List.{List, [], _∷_, map, List·Memᴰ, List·Memᴰ·not-nil, List·Memᴰ·cases-cons}
+use mathlib.Core.Logic.{_⊎_, inl, inr}
+use Prim.Native.Nat.{ℕ, suc}
+use native.Mathlib.Decide.{ℕ-discrete, decLt}
+use lib.IntN.{ℤ, pos}
+use lib.ListN.{take}
+use Rattle.words.specs.Reduced.{tags, starts, ends, net}
+use Rattle.words.specs.Reader.{meet, step, then-tag, then-value, join, fit, limit}
+use Rattle.hedge.specs.Schema.{field}
+use Rattle.hedge.specs.Relation.{bit, has}
+use Rattle.hedge.specs.Operations.{any, same, linked, ended, onePair, fires, wrapped, number as digits, lowest, relation}
+use Rattle.hedge.specs.Operations.{unit, compose, wrap, accepts}
+use Rattle.template.specs.Layout.{halfAt, partOf}
+use Rattle.template.specs.Order.{IsSound, firstFault, headTests, contentsTests, fieldTests, width, precedes, ascends}
+use Rattle.template.specs.Order.{entryTests, bodyTests, bodies, tests}
+use Rattle.stack.specs.Held.{tagAt, stackOf}
+use Rattle.summary.specs.Packing.{count, form}
+use Rattle.summary.specs.Fragments.{FragmentSays}
+use Rattle.summary.specs.Joins.{SummaryUnder, JoinSays}
+use Rattle.summary.specs.Answers.{fragmentAnswer, joinAnswer, joinNumber}
+use Rattle.summary.specs.declared.Summary.{Summary}
+use Rattle.summary.specs.declared.JoinReply.{JoinReply}
+use Rattle.summary.specs.declared.DepthReply.the-variants.{Net}
+use Rattle.summary.proofs.MeaningLaws.{fragment-under}
+use Rattle.page.specs.Pages.{answer, number}
+use Rattle.page.specs.Endings.{balanceOf, endOf}
+use Rattle.demands.specs.Cases.{K, Case, page, fragment, depth, joined, refused, Holds, cases, AllHold}
+use Rattle.demands.proofs.SecondLaws.{answer-summarised}
+use Rattle.demands.proofs.Findings.{classBy, classOf, findOn, findBy, findFrom, find}
+use Rattle.demands.proofs.Packings.{put, packOf}
+use Rattle.demands.proofs.Replies.{fragmentOf, pageOf, joinOf, fragment-says, page-says, join-says}
+
+-- ---- the lines
+
+-- answers and numbers, names, relations, net depth
+data Line : Type 0 where
+  line : List ℕ → List ℕ → List ℕ → ℤ → Line
+
+abbrev shown : List ℕ → Summary → Line
+shown answers s = line answers (take (count s) (s .names)) (take (suc (count s)) (s .relations)) (pos 0)
+
+-- as the case states it; a fragment's answer is 0
+abbrev stated : Case → Line
+stated (page bytes a n) = line (a ∷ n ∷ []) [] [] (pos 0)
+stated (fragment bytes e s names relations) = line (0 ∷ e ∷ s ∷ []) names relations (pos 0)
+stated (depth bytes z) = line (0 ∷ []) [] [] z
+stated (joined u v e s names relations) = line (0 ∷ 0 ∷ 0 ∷ e ∷ s ∷ []) names relations (pos 0)
+stated (refused u v a n) = line (0 ∷ 0 ∷ a ∷ n ∷ []) [] [] (pos 0)
+
+-- as it comes out
+answerOf : List ℕ → ℕ
+answerOf bytes = fragmentAnswer (fragmentOf K bytes .answer)
+
+joinedOf : List ℕ → List ℕ → JoinReply
+joinedOf u v = joinOf K (fragmentOf K u .summary) (fragmentOf K v .summary)
+
+abbrev run : Case → Line
+run (page bytes a n) = line (answer (pageOf K bytes) ∷ number (pageOf K bytes) ∷ []) [] [] (pos 0)
+run (fragment bytes e s names relations) =
+    let m = fragmentOf K bytes .summary in shown (answerOf bytes ∷ m .ends ∷ m .starts ∷ []) m
+run (depth bytes z) = line (answerOf bytes ∷ []) [] [] (net (form (fragmentOf K bytes .summary)))
+run (joined u v e s names relations) =
+    let j = joinedOf u v in
+    shown (answerOf u ∷ answerOf v ∷ joinAnswer (j .answer) ∷ j .summary .ends ∷ j .summary .starts ∷ []) (j .summary)
+run (refused u v a n) =
+    let j = joinedOf u v in line (answerOf u ∷ answerOf v ∷ joinAnswer (j .answer) ∷ joinNumber (j .answer) ∷ []) [] [] (pos 0)
+
+-- ---- all are run
+
+sound : IsSound K
+unfolding K tests headTests contentsTests bodies bodyTests entryTests fieldTests firstFault ascends precedes width halfAt
+sound = refl
+
+table : map run cases ≡ map stated cases
+unfolding cases K answerOf joinedOf fragmentOf pageOf joinOf packOf put find findFrom findBy findOn classOf classBy limit fit step meet
+    join then-tag then-value tags starts ends net stackOf tagAt balanceOf endOf halfAt partOf field bit has any same linked ended
+    onePair fires wrapped digits lowest relation unit compose wrap accepts ℕ-discrete decLt
+table = refl
+
+-- ---- a case that comes out as stated holds
+
+summary-under : (bytes : List ℕ) → answerOf bytes ≡ 0 → SummaryUnder K (fragmentOf K bytes .summary)
+unfolding answerOf
+summary-under bytes e =
+    fragment-under K bytes (fragmentOf K bytes) (fragment-says K sound bytes) (answer-summarised (fragmentOf K bytes .answer) e)
+
+two-say : (u v : List ℕ) → answerOf u ≡ 0 → answerOf v ≡ 0
+    → FragmentSays K u (fragmentOf K u) × FragmentSays K v (fragmentOf K v)
+    × JoinSays K (fragmentOf K u .summary) (fragmentOf K v .summary) (joinedOf u v)
+unfolding joinedOf
+two-say u v e d = (
+  fragment-says K sound u,
+  fragment-says K sound v,
+  join-says K sound (fragmentOf K u .summary) (fragmentOf K v .summary) (summary-under u e) (summary-under v d),
+)
+
+run-holds : (c : Case) → run c ≡ stated c → Holds c
+unfolding answerOf
+run-holds (page bytes _ _) e = (pageOf K bytes, page-says K sound bytes, cc e, cc e)
+run-holds (fragment bytes _ _ _ _) e = (fragmentOf K bytes, fragment-says K sound bytes, cc e, (cc e, cc e, cc e, cc e))
+run-holds (depth bytes _) e =
+    let r = fragmentOf K bytes in
+    (r, Net (net (form (r .summary))), fragment-says K sound bytes, (sound, summary-under bytes (cc e), refl), cc e, refl, cc e)
+run-holds (joined u v _ _ _ _) e =
+    let (p, q, j) = two-say u v (cc e) (cc e) in
+    (fragmentOf K u, fragmentOf K v, joinedOf u v, p, q, j, cc e, (cc e, cc e, cc e, cc e))
+run-holds (refused u v _ _) e =
+    let (p, q, j) = two-say u v (cc e) (cc e) in
+    (fragmentOf K u, fragmentOf K v, joinedOf u v, p, q, j, cc e, cc e)
+
+-- ---- every member of the table
+
+map-same : {A B : Type 0} (f g : A → B) (xs : List A) → map f xs ≡ map g xs → (x : A) → List·Memᴰ x xs → f x ≡ g x
+map-same f g [] e x m = absurd (List·Memᴰ·not-nil m)
+map-same f g (y ∷ ys) e x m = from (List·Memᴰ·cases-cons m) (λ m. map-same f g ys (cc e) x m)
+  where
+    from : (x ≡ y) ⊎ List·Memᴰ x ys → (List·Memᴰ x ys → f x ≡ g x) → f x ≡ g x
+    from (inl p) behind = subst (λ x. f x ≡ g x) (sym p) (cc e)
+    from (inr m) behind = behind m
+
+pub all-hold : AllHold
+all-hold c m = run-holds c (map-same run stated cases table c m)

@@ -1,0 +1,75 @@
+-- Document 01's marked cases, "Both sides of each line", as one table: the file K, the bytes, and what must come of them.
+use mathlib.Core.Path.{_≡_}
+use mathlib.Core.List.{List, [], _∷_, List·Memᴰ}
+use Prim.Native.Nat.{ℕ, suc}
+use lib.IntN.{ℤ, pos}
+use lib.ListN.{take}
+use Rattle.summary.specs.Packing.{count}
+use Rattle.summary.specs.Fragments.{FragmentSays}
+use Rattle.summary.specs.Joins.{JoinSays, DepthSays}
+use Rattle.summary.specs.Answers.{fragmentAnswer, joinAnswer, joinNumber, depthAnswer, netDepth}
+use Rattle.summary.specs.declared.Summary.{Summary}
+use Rattle.summary.specs.declared.FragmentReply.{FragmentReply}
+use Rattle.summary.specs.declared.JoinReply.{JoinReply}
+use Rattle.summary.specs.declared.DepthReply.{DepthReply}
+use Rattle.page.specs.Pages.{PageSays, answer, number}
+use Rattle.page.specs.declared.PageReply.{PageReply}
+
+-- "File K": "the schema asks for exactly one b among any a, as the source's Example 2"
+unfoldable pub K : List ℕ
+K =
+    2 ∷ 3 ∷ 2 ∷ 0 ∷ 16 ∷ 0 ∷ 3 ∷ 0 ∷ 28 ∷ 0 ∷ 4 ∷ 0 ∷ 44 ∷ 0 ∷ 1 ∷ 0
+    ∷ 0 ∷ 2 ∷ 65 ∷ 32 ∷ 1 ∷ 2 ∷ 0 ∷ 66 ∷ 2 ∷ 2 ∷ 1 ∷ 33
+    ∷ 0 ∷ 0 ∷ 0 ∷ 1 ∷ 0 ∷ 0 ∷ 1 ∷ 0 ∷ 0 ∷ 1 ∷ 1 ∷ 1 ∷ 1 ∷ 0 ∷ 1 ∷ 1 ∷ 1 ∷ []
+
+-- a page with its answer and number; a fragment, and a join of two fragments, with its ends, starts, names and relations; a fragment's
+-- net depth; a join's refusal
+pub data Case : Type 0 where
+  page : List ℕ → ℕ → ℕ → Case
+  fragment : List ℕ → ℕ → ℕ → List ℕ → List ℕ → Case
+  depth : List ℕ → ℤ → Case
+  joined : List ℕ → List ℕ → ℕ → ℕ → List ℕ → List ℕ → Case
+  refused : List ℕ → List ℕ → ℕ → ℕ → Case
+
+-- the numbers of ends and starts, the names of the tags, the relations
+abbrev pub Shows : Summary → ℕ → ℕ → List ℕ → List ℕ → Type 0
+Shows s ends starts names relations =
+    (s .ends ≡ ends) × (s .starts ≡ starts) × (take (count s) (s .names) ≡ names) × (take (suc (count s)) (s .relations) ≡ relations)
+
+-- what a case says of the replies that the promises allow under K
+abbrev pub Holds : Case → Type 0
+Holds (page bytes a n) = (r : PageReply) × PageSays K bytes r × (answer r ≡ a) × (number r ≡ n)
+Holds (fragment bytes ends starts names relations) =
+    (r : FragmentReply) × FragmentSays K bytes r × (fragmentAnswer (r .answer) ≡ 0) × Shows (r .summary) ends starts names relations
+Holds (depth bytes z) =
+    (r : FragmentReply) × (d : DepthReply) × FragmentSays K bytes r × DepthSays K (r .summary) d
+    × (fragmentAnswer (r .answer) ≡ 0) × (depthAnswer d ≡ 0) × (netDepth d ≡ z)
+Holds (joined u v ends starts names relations) =
+    (r s : FragmentReply) × (j : JoinReply) × FragmentSays K u r × FragmentSays K v s × JoinSays K (r .summary) (s .summary) j
+    × (joinAnswer (j .answer) ≡ 0) × Shows (j .summary) ends starts names relations
+Holds (refused u v a n) =
+    (r s : FragmentReply) × (j : JoinReply) × FragmentSays K u r × FragmentSays K v s × JoinSays K (r .summary) (s .summary) j
+    × (joinAnswer (j .answer) ≡ a) × (joinNumber (j .answer) ≡ n)
+
+unfoldable pub cases : List Case
+cases =
+    page (1 ∷ 33 ∷ []) 0 0
+    ∷ fragment (1 ∷ 33 ∷ []) 0 0 [] (2 ∷ [])
+    ∷ page [] 14 0
+    ∷ fragment [] 0 0 [] (513 ∷ [])
+    ∷ page (0 ∷ 1 ∷ 33 ∷ 32 ∷ []) 0 0
+    ∷ page (0 ∷ 32 ∷ 1 ∷ 33 ∷ []) 0 0
+    ∷ page (1 ∷ 33 ∷ 1 ∷ 33 ∷ []) 14 0
+    ∷ page (0 ∷ 33 ∷ []) 11 1
+    ∷ page (0 ∷ []) 13 0
+    ∷ page (32 ∷ []) 13 0
+    ∷ page (2 ∷ []) 10 0
+    ∷ fragment (32 ∷ 0 ∷ []) 1 1 (0 ∷ 0 ∷ []) (513 ∷ 513 ∷ 513 ∷ [])
+    ∷ depth (32 ∷ 0 ∷ []) (pos 0)
+    ∷ joined (0 ∷ 1 ∷ []) (33 ∷ 32 ∷ []) 0 0 [] (2 ∷ [])
+    ∷ refused (0 ∷ []) (33 ∷ []) 11 0
+    ∷ []
+
+-- the one statement
+abbrev pub AllHold : Type 0
+AllHold = (c : Case) → List·Memᴰ c cases → Holds c
