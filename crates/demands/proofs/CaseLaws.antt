@@ -26,7 +26,10 @@ use Rattle.summary.specs.declared.Summary.{Summary}
 use Rattle.summary.specs.declared.JoinReply.{JoinReply}
 use Rattle.summary.specs.declared.DepthReply.the-variants.{Net}
 use Rattle.summary.proofs.MeaningLaws.{fragment-under}
+use Rattle.summary.proofs.UniqueLaws.{fragment-unique, join-unique, depth-unique}
+use Rattle.summary.specs.declared.FragmentReply.{FragmentReply}
 use Rattle.page.specs.Pages.{answer, number}
+use Rattle.page.proofs.UniqueLaws.{page-unique}
 use Rattle.page.specs.Endings.{balanceOf, endOf}
 use Rattle.demands.specs.Cases.{K, Case, page, fragment, depth, joined, refused, Holds, cases, AllHold}
 use Rattle.demands.proofs.SecondLaws.{answer-summarised}
@@ -88,29 +91,31 @@ unfolding answerOf
 summary-under bytes e =
     fragment-under K bytes (fragmentOf K bytes) (fragment-says K sound bytes) (answer-summarised (fragmentOf K bytes .answer) e)
 
-two-say : (u v : List ℕ) → answerOf u ≡ 0 → answerOf v ≡ 0
-    → FragmentSays K u (fragmentOf K u) × FragmentSays K v (fragmentOf K v)
-    × JoinSays K (fragmentOf K u .summary) (fragmentOf K v .summary) (joinedOf u v)
+-- every reply that is allowed is the computed one
+fragment-is : (bytes : List ℕ) (r : FragmentReply) → FragmentSays K bytes r → r ≡ fragmentOf K bytes
+fragment-is bytes r says = fragment-unique K bytes r (fragmentOf K bytes) says (fragment-says K sound bytes)
+
+join-is : (u v : List ℕ) → answerOf u ≡ 0 → answerOf v ≡ 0 → (r s : FragmentReply) (j : JoinReply) → FragmentSays K u r
+    → FragmentSays K v s → JoinSays K (r .summary) (s .summary) j → j ≡ joinedOf u v
 unfolding joinedOf
-two-say u v e d = (
-  fragment-says K sound u,
-  fragment-says K sound v,
-  join-says K sound (fragmentOf K u .summary) (fragmentOf K v .summary) (summary-under u e) (summary-under v d),
-)
+join-is u v e d r s j p q says =
+    let l = fragmentOf K u .summary in
+    let m = fragmentOf K v .summary in
+    join-unique K l m j (joinOf K l m) (rw (fragment-is u r p, fragment-is v s q) at says)
+    (join-says K sound l m (summary-under u e) (summary-under v d))
 
 run-holds : (c : Case) → run c ≡ stated c → Holds c
 unfolding answerOf
-run-holds (page bytes _ _) e = (pageOf K bytes, page-says K sound bytes, cc e, cc e)
-run-holds (fragment bytes _ _ _ _) e = (fragmentOf K bytes, fragment-says K sound bytes, cc e, (cc e, cc e, cc e, cc e))
-run-holds (depth bytes _) e =
-    let r = fragmentOf K bytes in
-    (r, Net (net (form (r .summary))), fragment-says K sound bytes, (sound, summary-under bytes (cc e), refl), cc e, refl, cc e)
-run-holds (joined u v _ _ _ _) e =
-    let (p, q, j) = two-say u v (cc e) (cc e) in
-    (fragmentOf K u, fragmentOf K v, joinedOf u v, p, q, j, cc e, (cc e, cc e, cc e, cc e))
-run-holds (refused u v _ _) e =
-    let (p, q, j) = two-say u v (cc e) (cc e) in
-    (fragmentOf K u, fragmentOf K v, joinedOf u v, p, q, j, cc e, cc e)
+run-holds (page bytes _ _) e = λ r says. rw (page-unique K bytes r (pageOf K bytes) says (page-says K sound bytes)) (cc e, cc e)
+run-holds (fragment bytes _ _ _ _) e = λ r says. rw (fragment-is bytes r says) (cc e, (cc e, cc e, cc e, cc e))
+run-holds (depth bytes _) e = λ r d says deep.
+    let m = fragmentOf K bytes .summary in
+    let net-is : d ≡ Net (net (form m)) =
+    depth-unique K m d (Net (net (form m))) (rw (fragment-is bytes r says) at deep) (sound, summary-under bytes (cc e), refl) in
+    rw (fragment-is bytes r says, net-is) (cc e, refl, cc e)
+run-holds (joined u v _ _ _ _) e = λ r s j p q says.
+    rw (join-is u v (cc e) (cc e) r s j p q says) (cc e, (cc e, cc e, cc e, cc e))
+run-holds (refused u v _ _) e = λ r s j p q says. rw (join-is u v (cc e) (cc e) r s j p q says) (cc e, cc e)
 
 -- ---- every member of the table
 
