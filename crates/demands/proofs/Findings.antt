@@ -1,7 +1,6 @@
 -- Reading a run of bytes as a computation, so that the cases of a table can be run: the class of a byte by four tests, the tag stepped
--- under the limit, and a refusal with the number of bytes before it. One law says that what it gives is what reading finds by the
--- definition (reader/specs/Reads.antt): at each byte the law of one tag more (reader/proofs/NextLaws.antt) tells what the bytes so far
--- are. Assumes nothing.
+-- under the limit, and a refusal with the number of bytes before it. One law says that what it gives is what specs of reading say: at each
+-- byte the law of one tag more (reader/proofs/NextLaws.antt) tells what the bytes so far are. Assumes nothing.
 use mathlib.Core.Path.{refl}
 use mathlib.Core.List.{List, [], _∷_, _++_, append-assoc, append-nil}
 use Prim.Native.Nat.{ℕ, _-_, _<_}

@@ -1,3 +1,13 @@
+pub mod Sides
+pub mod RowCountLaws
+pub mod WorktableLaws
+pub mod FirstLaws
+pub mod NestLaws
+pub mod ProducedLaws
+pub mod PassedLaws
+pub mod ValidReadLaws
+pub mod ExactLaws
+pub mod ThirdLaws
 pub mod SecondLaws
 pub mod Findings
 pub mod Packings

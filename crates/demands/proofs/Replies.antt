@@ -99,9 +99,16 @@ module _ (f : List ℕ) where
     module _ (left right : Summary) (l : SummaryUnder f left) (r : SummaryUnder f right) where
       limited-says : (o : Limited ℕ) → Answers 16 (outcomeOf f left right) o → JoinSays f left right (joinReply o)
       limited-says (fits t c) (e, few) =
-          let first = ends-first-held (left .ends) (count left) (left .names) (left .relations) in
-          let ordered = join-ends-first (binoidOf f) (form left) (form right) t (last left) (last right) c first e in
-          ((sound, l, r), (t, c, e, few, pack-packs t c ordered few))
+          let first = ends-first-held (left .ends) (count left) (left .names) (left .relations) in (
+            (sound, l, r),
+            (
+              t,
+              c,
+              e,
+              few,
+              pack-packs t c (join-ends-first (binoidOf f) (form left) (form right) t (last left) (last right) c first e) few,
+            ),
+          )
       limited-says (differs a b) e = ((sound, l, r), (a, b, e), refl)
       limited-says too-deep h = ((sound, l, r), h, refl)
 

@@ -1,0 +1,89 @@
+-- How many rows a pass leaves, and how wide they are. Ascending rows differ, and rows that differ pack different images; so more than 256
+-- rows would be more than 256 images, which is an event, and a round that passes has none. Each row has 20 entries. Assumes nothing.
+use mathlib.Core.Path.{_≡_, refl, ap, _∙_}
+use mathlib.Core.List.{List, [], _∷_, List·Memᴰ, List·Memᴰ·head, List·Memᴰ·tail, List·Memᴰ·not-nil, List·Memᴰ·cases-cons, Memᴰ·cast}
+use mathlib.Core.Logic.{⊎-elim}
+use Prim.Native.Nat.{ℕ, suc, _≤_, _<_}
+use native.Mathlib.Decide.{decLt}
+use native.Mathlib.Omega.{arith}
+use lib.ListN.{length}
+use Rattle.trees.specs.Events.{Pair, Distinct, distinct-none, distinct-more}
+use Rattle.trees.specs.Verdict.{Quiet}
+use Rattle.trees.proofs.TableLaws.{rows-crowded}
+use Rattle.rows.specs.Tables.{order, Above, Ascending}
+use Rattle.rows.specs.declared.Order.the-variants.{Less}
+use Rattle.rows.proofs.OrderLaws.{less-irrefl, less-trans}
+use Rattle.rows.proofs.PackedLaws.{packed-length}
+use Rattle.rows.proofs.TableLaws.{Wide}
+use Rattle.rounds.specs.Checks.{ImageOf, EventOf, NewOf, Rows}
+use Rattle.rounds.proofs.ListedLaws.{Packs, packs-row}
+
+-- ---- ascending rows differ
+
+-- a row below the first of ascending rows is none of them
+below-absent : (x y : List ℕ) (ys : List (List ℕ)) → order x y ≡ Less → Ascending (y ∷ ys) → List·Memᴰ x (y ∷ ys) → ⊥
+below-absent x y [] l a m =
+    ⊎-elim (λ (e : x ≡ y). less-irrefl y (rw e at l)) (λ k. List·Memᴰ·not-nil k) (List·Memᴰ·cases-cons m)
+below-absent x y (z ∷ ys) l (a, s) m =
+    ⊎-elim (λ (e : x ≡ y). less-irrefl y (rw e at l)) (λ k. below-absent x z ys (less-trans x y z l a) s k) (List·Memᴰ·cases-cons m)
+
+first-absent : (x : List ℕ) (xs : List (List ℕ)) → Above x xs → Ascending xs → List·Memᴰ x xs → ⊥
+first-absent x [] a s m = List·Memᴰ·not-nil m
+first-absent x (y ∷ ys) a s m = below-absent x y ys a s m
+
+-- ---- the images that rows pack
+
+module _ (I : Pair ℕ → Type 0) where
+  -- each row packs an image
+  abbrev Imaged : List (List ℕ) → Type 0
+  Imaged rows = (row : List ℕ) → List·Memᴰ row rows → (p : Pair ℕ) × I p × Packs row p
+
+  -- as many images as rows, each once
+  record Unpacked (rows : List (List ℕ)) : Type 0 where
+    pairs : List (Pair ℕ)
+    count : length pairs ≡ length rows
+    distinct : Distinct pairs
+    are-images : (p : Pair ℕ) → List·Memᴰ p pairs → I p
+    have-rows : (p : Pair ℕ) → List·Memᴰ p pairs → (row : List ℕ) × List·Memᴰ row rows × Packs row p
+
+  unpacked : (rows : List (List ℕ)) → Ascending rows → Imaged rows → Unpacked rows
+  unpacked [] s imaged = record {
+    pairs = [];
+    count = refl;
+    distinct = distinct-none;
+    are-images = λ p m. absurd (List·Memᴰ·not-nil m);
+    have-rows = λ p m. absurd (List·Memᴰ·not-nil m);
+  }
+  unpacked (x ∷ xs) (a, s) imaged =
+      let (q, i, c) = imaged x (List·Memᴰ·head refl) in
+      let rest = unpacked xs s (λ row m. imaged row (List·Memᴰ·tail m)) in
+      record {
+        pairs = q ∷ rest .pairs;
+        count = ap suc (rest .count);
+        distinct =
+            distinct-more (λ m.
+            let (row, n, d) = rest .have-rows q m in
+            first-absent x xs a s (Memᴰ·cast (packs-row x row q c d) n)) (rest .distinct);
+        are-images = λ p m. ⊎-elim (λ (e : p ≡ q). rw e i) (rest .are-images p) (List·Memᴰ·cases-cons m);
+        have-rows = λ p m.
+            ⊎-elim (λ (e : p ≡ q). (x, List·Memᴰ·head refl, rw e c))
+            (λ k. let (row, n, d) = rest .have-rows p k in (row, List·Memᴰ·tail n, d)) (List·Memᴰ·cases-cons m);
+      }
+
+-- ---- the rows of a round
+
+module _ (f : List ℕ) (r : ℕ) (rows : List (List ℕ)) (made : Rows f r rows) where
+  pub rows-few : Quiet (EventOf f) (NewOf f) r → length rows ≤ 256
+  rows-few quiet = from (decLt 256 (length rows))
+    where
+      from : Dec (256 < length rows) → length rows ≤ 256
+      from (no l) = omega (arith, l)
+      from (yes l) =
+          let u = unpacked (ImageOf f r) rows (made .ascending) (made .each-image) in
+          let n : length (u .pairs) ≡ length rows = u .count in
+          absurd (quiet 4 (rows-crowded (u .pairs) (u .distinct) (u .are-images) (omega (arith, l, n))))
+
+  pub rows-are-wide : Wide rows
+  rows-are-wide row m =
+      let (p, i, c) = made .each-image row m in
+      ap length (c .row-is) ∙ packed-length (p .of) (c .ends) (c .starts) (c .names) (c .values) (c .values-room)

@@ -1,0 +1,8 @@
+-- The two sides of an equivalence: where both hold, and where neither does, it holds. Assumes nothing.
+use mathlib.Core.Logic.{_↔_}
+
+pub both : {A B : Type 0} → A → B → A ↔ B
+both a b = (λ x. b, λ y. a)
+
+pub neither : {A B : Type 0} → (A → ⊥) → (B → ⊥) → A ↔ B
+neither a b = (λ x. absurd (a x), λ y. absurd (b y))

@@ -1,0 +1,11 @@
+pub mod FormLaws
+pub mod ListedLaws
+pub mod ResultLaws
+pub mod StateLaws
+pub mod WalkedLaws
+pub mod DecisionLaws
+pub mod PassLaws
+pub mod UniqueLaws
+pub mod BudgetLaws
+pub mod PartLaws
+pub mod EndLaws

@@ -1,0 +1,90 @@
+-- The pairs that the rows of a tidy table pack, as a list: one for each row, and each once, since a row packs one pair and a pair has one
+-- row. By induction on the number of rows, the last row's pair in front. Assumes nothing.
+use mathlib.Core.Path.{_≡_, refl, ap}
+use mathlib.Core.List.{List, [], _∷_, List·Memᴰ, List·Memᴰ·head, List·Memᴰ·tail, List·Memᴰ·not-nil, List·Memᴰ·cases-cons}
+use mathlib.Core.Logic.{⊎-elim}
+use Prim.Native.Nat.{ℕ, zero, suc, _≤_, _<_}
+use native.Mathlib.Decide.{decLt}
+use native.Mathlib.Omega.{arith}
+use lib.ListN.{length}
+use Rattle.trees.specs.Events.{Pair, Distinct, distinct-none, distinct-more}
+use Rattle.rows.specs.Tables.{rowAt}
+use Rattle.rows.specs.Packed.{RowOf}
+use Rattle.rows.proofs.RowLaws.{row-pair, pair-row}
+use Rattle.walk.specs.Slots.{Tabled}
+
+-- the row packs the pair
+abbrev pub Packs : List ℕ → Pair ℕ → Type 0
+Packs row p = RowOf row (p .of) (p .form) (p .last)
+
+pub packs-pair : (row : List ℕ) (p q : Pair ℕ) → Packs row p → Packs row q → p ≡ q
+packs-pair row p q a b =
+    let (x, s, c) = row-pair row (p .of) (q .of) (p .form) (q .form) (p .last) (q .last) a b in
+    λ i. record { of = x i; form = s i; last = c i }
+
+pub packs-row : (row row′ : List ℕ) (p : Pair ℕ) → Packs row p → Packs row′ p → row ≡ row′
+packs-row row row′ p a b = pair-row row row′ (p .of) (p .form) (p .last) a b
+
+-- ---- rows that pack pairs, and differ
+
+abbrev pub Packing : List ℕ → ℕ → Type 0
+Packing t n = (k : ℕ) → k < n → (p : Pair ℕ) × Packs (rowAt t k) p
+
+abbrev pub Differing : List ℕ → ℕ → Type 0
+Differing t n = (j k : ℕ) → j < n → k < n → rowAt t j ≡ rowAt t k → j ≡ k
+
+-- more rows have the pairs of fewer
+pub tabled-more : (t : List ℕ) {m n : ℕ} → m ≤ n → (p : Pair ℕ) → Tabled t m p → Tabled t n p
+tabled-more t h p (k, l, a) = (k, omega (arith, h, l), a)
+
+-- and tables whose n first rows are the same have the same pairs there
+pub tabled-same : (t u : List ℕ) (n : ℕ) → ((k : ℕ) → k < n → rowAt u k ≡ rowAt t k) → (p : Pair ℕ) → Tabled t n p → Tabled u n p
+tabled-same t u n same p (k, l, a) = (k, l, rw (same k l) a)
+
+-- the list
+pub record Listed (t : List ℕ) (n : ℕ) : Type 0 where
+  pub pairs : List (Pair ℕ)
+  pub count : length pairs ≡ n
+  pub distinct : Distinct pairs
+  pub each : (p : Pair ℕ) → List·Memᴰ p pairs → Tabled t n p
+  pub every : (p : Pair ℕ) → Tabled t n p → List·Memᴰ p pairs
+
+module _ (t : List ℕ) where
+  -- a pair of the last row is not one of the rows before
+  last-new : (n : ℕ) → Differing t (suc n) → (p : Pair ℕ) → Packs (rowAt t n) p → Tabled t n p → ⊥
+  last-new n different p a (k, l, b) =
+      let e : k ≡ n = different k n (omega (arith, l)) (omega arith) (packs-row (rowAt t k) (rowAt t n) p b a) in
+      omega (arith, l, e)
+
+  last-or-before : (n : ℕ) (q p : Pair ℕ) → Packs (rowAt t n) q → (l : List (Pair ℕ))
+      → ((p : Pair ℕ) → Tabled t n p → List·Memᴰ p l) → Tabled t (suc n) p → List·Memᴰ p (q ∷ l)
+  last-or-before n q p a l every (k, h, b) = from (decLt k n)
+    where
+      from : Dec (k < n) → List·Memᴰ p (q ∷ l)
+      from (yes s) = List·Memᴰ·tail (every p (k, s, b))
+      from (no s) =
+          let e : k ≡ n = omega (arith, h, s) in
+          List·Memᴰ·head (packs-pair (rowAt t n) p q (rw e at b) a)
+
+  listed-more : (n : ℕ) → Differing t (suc n) → (q : Pair ℕ) → Packs (rowAt t n) q → Listed t n → Listed t (suc n)
+  listed-more n different q a l = record {
+    pairs = q ∷ l .pairs;
+    count = ap suc (l .count);
+    distinct = distinct-more (λ m. last-new n different q a (l .each q m)) (l .distinct);
+    each = λ p m.
+        ⊎-elim (λ (e : p ≡ q). (n, omega arith, rw e a)) (λ k. tabled-more t (omega arith) p (l .each p k)) (List·Memᴰ·cases-cons m);
+    every = λ p b. last-or-before n q p a (l .pairs) (l .every) b;
+  }
+
+  pub listed : (n : ℕ) → Packing t n → Differing t n → Listed t n
+  listed zero packing different = record {
+    pairs = [];
+    count = refl;
+    distinct = distinct-none;
+    each = λ p m. absurd (List·Memᴰ·not-nil m);
+    every = λ p (k, l, a). absurd (omega (arith, l));
+  }
+  listed (suc n) packing different =
+      let (q, a) = packing n (omega arith) in
+      listed-more n different q a
+      (listed n (λ k l. packing k (omega (arith, l))) (λ j k l m. different j k (omega (arith, l)) (omega (arith, m))))

@@ -1,0 +1,68 @@
+-- What the check leaves in the worktable. On a pass the rows are sorted and zeros follow them: as no row stands twice they ascend, each
+-- packs an image and each image has its row. On any other answer of the rounds there are zeros alone. Assumes nothing.
+use mathlib.Core.Path.{_≡_, sym, _∙_, subst}
+use mathlib.Core.List.{List}
+use Prim.Native.Nat.{ℕ, zero, suc, _+_, _*_, _≤_}
+use native.Mathlib.Omega.{arith}
+use lib.ListN.{length, drop, take}
+use lib.Seq.{drop-drop}
+use Rattle.rows.specs.Tables.{rowAt, rowsOf, tableOf, sorted, cleared}
+use Rattle.rows.proofs.TableLaws.{rows-length, row-member, member-row}
+use Rattle.rows.proofs.PutLaws.{sorted-length, sorted-keeps, sorted-only}
+use Rattle.rows.proofs.SortLaws.{NoRepeats, sorted-ascends}
+use Rattle.rows.proofs.ClearLaws.{sorted-cleared, whole-cleared}
+use Rattle.rounds.specs.Checks.{Rows, shown, zeroed}
+use Rattle.rounds.specs.Walking.{TidyUnder}
+use Rattle.rounds.proofs.ListedLaws.{Packs, Differing}
+use Rattle.rounds.proofs.ResultLaws.{Holding}
+
+-- ---- rows that differ
+
+row-after : (t : List ℕ) (k : ℕ) → rowAt (drop 20 t) k ≡ rowAt t (suc k)
+row-after t k =
+    let e : suc k * 20 ≡ 20 + k * 20 = omega arith in
+    rw (e, drop-drop (k * 20) 20 t)
+
+pub rows-no-repeats : (n : ℕ) (t : List ℕ) → Differing t n → NoRepeats (rowsOf n t)
+unfolding rowsOf
+rows-no-repeats zero t different = tt
+rows-no-repeats (suc n) t different = (
+  λ a.
+      let (k, h, e) = member-row (take 20 t) n (drop 20 t) a in
+      let z : 0 ≡ suc k = different 0 (suc k) (omega arith) (omega (arith, h)) (e ∙ row-after t k) in
+      omega (arith, z),
+  rows-no-repeats n (drop 20 t)
+      (λ j k a b e.
+      let same : suc j ≡ suc k = different (suc j) (suc k) (omega (arith, a)) (omega (arith, b))
+      (sym (row-after t j) ∙ (e ∙ row-after t k)) in
+      omega (arith, same)),
+)
+
+-- ---- the rows of the images
+
+module _ (f t : List ℕ) (n r : ℕ) (tidy : TidyUnder f t n) (rows : Holding f t n r) where
+  pub sorted-rows : Rows f r (sorted (rowsOf n t))
+  sorted-rows = record {
+    ascending = sorted-ascends (rowsOf n t) (rows-no-repeats n t (tidy .different));
+    each-image = λ row a.
+        let (k, h, e) = member-row row n t (sorted-only (rowsOf n t) row a) in
+        let (p, b, g) = tidy .proper k h in
+        (p, rows p .0 (k, h, b), subst (λ (l : List ℕ). Packs l p) (sym e) b);
+    every-image = λ p i.
+        let (k, h, b) = rows p .1 i in
+        (rowAt t k, sorted-keeps (rowsOf n t) (rowAt t k) (row-member k n t h), b);
+  }
+
+pub sorted-count : (n : ℕ) (t : List ℕ) → n ≡ length (sorted (rowsOf n t))
+sorted-count n t = sym (sorted-length (rowsOf n t) ∙ rows-length n t)
+
+-- ---- the table, which is as t₀ was past entry 5,120
+
+module _ (t₀ t : List ℕ) (rest : drop 5120 t ≡ drop 5120 t₀) where
+  pub cleared-zeroed : (u : List ℕ) → u ≡ cleared t 0 5120 → u ≡ zeroed t₀
+  cleared-zeroed u e = rw (← rest) (whole-cleared t u 5120 e)
+
+  pub sorted-shown : (t₁ t₂ : List ℕ) (n : ℕ) → n ≤ 256 → 5120 ≤ length t → t₁ ≡ tableOf (sorted (rowsOf n t)) t
+      → t₂ ≡ cleared t₁ (n * 20) 5120 → t₂ ≡ shown (sorted (rowsOf n t)) t₀
+  sorted-shown t₁ t₂ n few room e d =
+      rw (← rest, ← sorted-count n t) (sorted-cleared t t₁ t₂ n few room e d)

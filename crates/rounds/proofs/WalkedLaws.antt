@@ -1,0 +1,139 @@
+-- The events and the images of round r + 1, after its walk from the state after round r. The walk stopped: some outcome differs, which is a
+-- mismatch. It went through: no outcome differs, and the notes say which of the other events there are, since each outcome was noted
+-- and each note has an outcome. The rows are images, and all images where none was past the room; 256 different rows and one image
+-- more are too many. Where no row came no image is new, and where one came, row n is of a new one. Assumes nothing.
+use mathlib.Core.Path.{_≡_, refl, sym, _∙_, subst}
+use mathlib.Core.Bool.{true, false, false≢true}
+use mathlib.Core.List.{List}
+use Prim.Native.Nat.{ℕ, suc, _≤_, _<_}
+use native.Mathlib.Decide.{decLt}
+use native.Mathlib.Omega.{arith}
+use Rattle.words.specs.Reader.{Outcome, reduced, differ}
+use Rattle.template.specs.Layout.{states, templateRules, schemaRules, endingStates}
+use Rattle.template.specs.Order.{IsSound}
+use Rattle.trees.specs.Events.{Pair}
+use Rattle.trees.specs.Verdict.{Quiet}
+use Rattle.trees.proofs.EventLaws.{image-later}
+use Rattle.trees.proofs.RoundLaws.{InvalidOutcome}
+use Rattle.trees.proofs.TableLaws.{row-more-crowded, rows-not-crowded}
+use Rattle.rows.specs.Tables.{rowAt}
+use Rattle.walk.specs.Slots.{Tabled}
+use Rattle.walk.specs.Walks.{Grown, Happened, Noted}
+use Rattle.walk.specs.declared.Notes.{Notes}
+use Rattle.walk.specs.declared.Walk.the-variants.{Stopped, Went}
+use Rattle.rounds.specs.Checks.{ImageOf, EventOf, NewOf}
+use Rattle.rounds.specs.Walking.{WalkedUnder}
+use Rattle.rounds.proofs.FormLaws.{PageForm}
+use Rattle.rounds.proofs.ListedLaws.{Packs, packs-pair, packs-row, tabled-same, Listed, listed}
+use Rattle.rounds.proofs.ResultLaws.{MismatchOf, InvalidOf, DeepOf, CrowdedOf, Over, Holding}
+use Rattle.rounds.proofs.ResultLaws.{over-image, over-mismatch, over-deep, over-invalid}
+
+module _ (f : List ℕ) (sound : IsSound f) (t t′ : List ℕ) (n r : ℕ) (rows : Holding f t n r) (quiet : Quiet (EventOf f) (NewOf f) r) where
+  pub stopped-mismatch : WalkedUnder f t n Stopped t′ → MismatchOf f (suc r)
+  stopped-mismatch (same-length, same-rest, found) = over-mismatch f sound t n r rows quiet .1 found
+
+  module _ (m : ℕ) (notes : Notes) (walked : WalkedUnder f t n (Went m notes) t′) where
+    abbrev NotedHere : ℕ → Outcome ℕ → Type 0
+    NotedHere = Noted (states f) (templateRules f) (schemaRules f) (endingStates f) notes t′ m
+
+    noted : (x : ℕ) (o : Outcome ℕ) → Over f t n x o → NotedHere x o
+    noted = walked .2
+
+    happened : Happened (states f) (templateRules f) (schemaRules f) (endingStates f) (Over f t n) notes t′ m
+    happened = walked .1
+
+    grown : Grown (states f) (templateRules f) (schemaRules f) (endingStates f) (Over f t n) t t′ n m
+    grown = walked .0
+
+    -- ---- the events that the walk went past
+
+    pub went-matched : MismatchOf f (suc r) → ⊥
+    went-matched e =
+        let (x, a, b, o) = over-mismatch f sound t n r rows quiet .0 e in
+        let d : differ a b ≡ reduced _ _ = noted x (differ a b) o .reduces in
+        let z : _≡_ {A = ℕ} 0 1 = cc d in
+        omega (arith, z)
+
+    pub went-invalid : notes .invalid ≡ true → InvalidOf f (suc r)
+    went-invalid e =
+        let (s, c, o, v) = happened .invalid-page e in
+        over-invalid f sound t n r rows quiet .1 (reduced s c, o, v)
+
+    pub went-valid : notes .invalid ≡ false → InvalidOf f (suc r) → ⊥
+    went-valid e v =
+        let (o, a, h) = over-invalid f sound t n r rows quiet .0 v in
+        let d = noted 0 o a in
+        subst (InvalidOutcome (PageForm f)) (d .reduces) h (d .valid refl e)
+
+    pub went-deep : notes .deep ≡ true → DeepOf f (suc r)
+    went-deep e = over-deep f sound t n r rows quiet .1 (happened .too-deep e)
+
+    pub went-shallow : notes .deep ≡ false → DeepOf f (suc r) → ⊥
+    went-shallow e v =
+        let (x, s, c, o, h) = over-deep f sound t n r rows quiet .0 v in
+        let d = noted x (reduced s c) o in
+        let same : s ≡ d .form = cc (d .reduces) in
+        false≢true (sym e ∙ d .deep-noted (rw same at h))
+
+    -- ---- the rows are the images
+
+    pub row-image : (k : ℕ) → n ≤ k → k < m → (p : Pair ℕ) → Packs (rowAt t′ k) p → ImageOf f (suc r) p
+    row-image k low high p a =
+        let (q, b, o, few) = grown .found k low high in
+        subst (ImageOf f (suc r)) (packs-pair (rowAt t′ k) q p b a) (over-image f sound t n r rows quiet q .1 (o, few))
+
+    -- the rows below n hold what they held
+    pub older-tabled : Holding f t′ n r
+    older-tabled p = (
+      λ a. rows p .0 (tabled-same t′ t n (λ k h. sym (grown .same-rows k h)) p a),
+      λ i. tabled-same t t′ n (grown .same-rows) p (rows p .1 i),
+    )
+
+    pub tabled-image : (p : Pair ℕ) → Tabled t′ m p → ImageOf f (suc r) p
+    tabled-image p (k, h, a) = from (decLt k n)
+      where
+        from : Dec (k < n) → ImageOf f (suc r) p
+        from (yes l) = image-later (omega arith) (older-tabled p .0 (k, l, a))
+        from (no l) = row-image k (omega (arith, l)) h p a
+
+    pub image-tabled : notes .crowded ≡ false → (p : Pair ℕ) → ImageOf f (suc r) p → Tabled t′ m p
+    image-tabled e p i =
+        let (o, few) = over-image f sound t n r rows quiet p .0 i in
+        let d = noted (p .of) (reduced (p .form) (p .last)) o in
+        let same : d .form ≡ p .form = cc (sym (d .reduces)) in
+        let last : d .last ≡ p .last = cc (sym (d .reduces)) in
+        rw (same, last) at (d .stands (rw same few) e)
+
+    went-listed : Listed t′ m
+    went-listed =
+        listed t′ m (λ k h. let (p, a, g) = grown .tidy .proper k h in (p, a)) (grown .tidy .different)
+
+    pub went-crowded : notes .crowded ≡ true → CrowdedOf f (suc r)
+    went-crowded e =
+        let (full, (x, s, c, o, few, new)) = happened .past-room e in
+        let p : Pair ℕ = record { of = x; form = s; last = c } in
+        row-more-crowded (went-listed .pairs) (went-listed .distinct) (λ q a. tabled-image q (went-listed .each q a))
+        (omega (arith, full, went-listed .count)) p (over-image f sound t n r rows quiet p .1 (o, few)) (λ a. new (went-listed .each p a))
+
+    pub went-room : notes .crowded ≡ false → CrowdedOf f (suc r) → ⊥
+    went-room e =
+        let few : m ≤ 256 = grown .tidy .few in
+        rows-not-crowded (went-listed .pairs) (λ p i. went-listed .every p (image-tabled e p i)) (omega (arith, went-listed .count, few))
+
+    -- ---- new images
+
+    pub no-more-new : notes .crowded ≡ false → m ≡ n → NewOf f (suc r) → ⊥
+    no-more-new e same new =
+        new .not-before (older-tabled (new .image) .0 (rw same at (image-tabled e (new .image) (new .here))))
+
+    pub more-new : n < m → NewOf f (suc r)
+    more-new h =
+        let (p, a, g) = grown .tidy .proper n h in
+        record {
+          image = p;
+          here = row-image n (omega arith) h p a;
+          not-before = λ i.
+              let (k, l, b) = older-tabled p .1 i in
+              let e : k ≡ n = grown .tidy .different k n (omega (arith, l, h)) h (packs-row (rowAt t′ k) (rowAt t′ n) p b a) in
+              omega (arith, l, e);
+        }

@@ -1,0 +1,4 @@
+pub mod ShownLaws
+mod LentWalk
+mod GetterWalk
+mod FileWalk

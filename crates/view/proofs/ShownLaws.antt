@@ -1,0 +1,72 @@
+-- What a view of a file shows is the file's three lists: the numbers of a sound reading are the file's own counts. The law goes by the
+-- first fault: where there is none both sides are the list, where there is one both are empty.
+-- And the three lists of a sound file stand in it one after the other, behind the head and the contents, without gaps: each part is cut
+-- off the rest of the file, and after the last one nothing is left. Assumes nothing.
+use mathlib.Core.Path.{_≡_, refl, sym, ap, _∙_}
+use mathlib.Core.List.{List, [], _++_, append-nil}
+use Prim.Native.Nat.{ℕ, _+_, _*_, _≤_}
+use native.Mathlib.Omega.{arith}
+use lib.ListN.{length, take, drop, drop-of-length-le, take-append-drop}
+use lib.Seq.{drop-drop}
+use Rattle.template.specs.declared.Fault.{Fault}
+use Rattle.template.specs.declared.Fault.the-variants.{Nowhere, At}
+use Rattle.template.specs.declared.Reading.{Reading}
+use Rattle.template.specs.declared.Reading.the-variants.{Sound, Bad}
+use Rattle.template.specs.Layout.{ruleCount, schemaCount, endingCount, schemaStart, endingStart, bodiesEnd}
+use Rattle.template.specs.Layout.{partOf, templateRules, schemaRules, endingStates}
+use Rattle.template.specs.Order.{tests, firstFault, shapeOf, verdict, reading, IsSound}
+use Rattle.template.proofs.ListLaws.{part-is}
+use Rattle.template.proofs.SoundLaws.{sound-reading, sound-file}
+use Rattle.view.specs.Views.{templatesOf, schemaOf, endingsOf, ofSound, templatesIn, schemaIn, endingsIn}
+
+-- a list that a sound reading gives and a bad one does not
+module _ (list : List ℕ → Reading → List ℕ) (held : List ℕ → List ℕ) (sound : (f : List ℕ) → list f (Sound (shapeOf f)) ≡ held f)
+    (bad : (f : List ℕ) (p : ℕ) → list f (Bad p) ≡ []) where
+  shown-by : (f : List ℕ) (x : Fault) → list f (verdict x (shapeOf f)) ≡ ofSound (verdict x (shapeOf f)) (held f)
+  shown-by f Nowhere = sound f
+  shown-by f (At p) = bad f p
+
+  shown-held : (f : List ℕ) → list f (reading f) ≡ ofSound (reading f) (held f)
+  unfolding reading
+  shown-held f = shown-by f (firstFault (tests f))
+
+pub templates-shown : (f : List ℕ) → templatesOf f (reading f) ≡ templatesIn f
+unfolding templatesOf
+templates-shown = shown-held templatesOf templateRules (λ f. refl) (λ f p. refl)
+
+pub schema-shown : (f : List ℕ) → schemaOf f (reading f) ≡ schemaIn f
+unfolding schemaOf
+schema-shown = shown-held schemaOf schemaRules (λ f. refl) (λ f p. refl)
+
+pub endings-shown : (f : List ℕ) → endingsOf f (reading f) ≡ endingsIn f
+unfolding endingsOf
+endings-shown = shown-held endingsOf endingStates (λ f. refl) (λ f p. refl)
+
+-- the lists of a sound file, and of a bad one
+pub sound-list : (f xs : List ℕ) → IsSound f → ofSound (reading f) xs ≡ xs
+sound-list f xs e = rw (sound-reading f e)
+
+pub bad-list : (f xs : List ℕ) (p : ℕ) → reading f ≡ Bad p → ofSound (reading f) xs ≡ []
+bad-list f xs p e = rw e
+
+-- a part and the rest of the file behind it, the last part, and all three
+part-then : (f xs : List ℕ) (at len : ℕ) → at + len ≤ length f → xs ≡ drop (at + len) f → partOf f at len ++ xs ≡ drop at f
+part-then f xs at len h e =
+    ap (λ (ys : List ℕ). ys ++ xs) (part-is f at len h)
+    ∙ (ap (λ (ys : List ℕ). take len (drop at f) ++ ys) (e ∙ sym (drop-drop len at f)) ∙ take-append-drop len (drop at f))
+
+part-last : (f : List ℕ) (at len : ℕ) → at + len ≡ length f → partOf f at len ≡ drop at f
+part-last f at len e =
+    sym (append-nil (partOf f at len))
+    ∙ part-then f [] at len (omega arith) (sym (drop-of-length-le f {i = at + len} (omega arith)))
+
+parts-whole : (f : List ℕ) → length f ≡ bodiesEnd f → take 16 f ++ (templateRules f ++ (schemaRules f ++ endingStates f)) ≡ f
+parts-whole f e =
+    ap (λ (xs : List ℕ). take 16 f ++ xs)
+    (part-then f (schemaRules f ++ endingStates f) 16 (4 * ruleCount f) (omega arith)
+    (part-then f (endingStates f) (schemaStart f) (4 * schemaCount f) (omega arith)
+    (part-last f (endingStart f) (endingCount f) (sym e))))
+    ∙ take-append-drop 16 f
+
+pub sound-whole : (f : List ℕ) → IsSound f → take 16 f ++ (templatesIn f ++ (schemaIn f ++ endingsIn f)) ≡ f
+sound-whole f e = rw (sound-reading f e) (parts-whole f (sound-file f e .whole-length))

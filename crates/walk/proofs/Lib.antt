@@ -1,0 +1,12 @@
+pub mod SlotLaws
+pub mod PairingLaws
+pub mod ValidLaws
+pub mod ProgressLaws
+pub mod OutcomeLaws
+pub mod VisitLaws
+pub mod JoinedLaws
+pub mod LoadLaws
+pub mod NoteLaws
+pub mod TurnLaws
+pub mod RoundLaws
+pub mod NextLaws

@@ -1,0 +1,78 @@
+-- What is noted of a form (specs/Turns.antt), in the words in which `is_page`, `invalid_form` and `note_form` have it, for `search notes`:
+-- a form with tags is no page's, one without goes by its relation; the row of a form in the arrays stands among the others, finds no
+-- room, or goes behind them. Assumes nothing.
+use mathlib.Core.Path.{_≡_, refl, sym, _∙_}
+use mathlib.Core.Bool.{Bool, true, false, not, _||_}
+use mathlib.Core.List.{List, [], _∷_, _++_}
+use Prim.Native.Nat.{ℕ, _+_, _≤_, _<_}
+use native.Mathlib.Omega.{arith}
+use lib.ListN.{getD}
+use mir.Syntax.{w8}
+use mir.Val.{Fits}
+use borrow.Author.Needs.{needs}
+use borrow.Author.Tests.{eq-eqb, ne-eqb}
+use Rattle.words.specs.Reduced.{Stack, bottom, push, tags}
+use Rattle.hedge.specs.Operations.{accepts}
+use Rattle.stack.specs.Held.{stackOf}
+use Rattle.stack.specs.Steps.{Holds}
+use Rattle.stack.proofs.HeldLaws.{tags-held}
+use Rattle.rows.specs.Tables.{rowsOf, tableOf, among}
+use Rattle.rows.specs.Packed.{packed, RowOf}
+use Rattle.rows.proofs.PackedLaws.{packed-row}
+use Rattle.walk.specs.Turns.{isPage, invalidForm, FormNoted, stands, finds-no-room, goes-behind}
+use Rattle.walk.specs.declared.Notes.{Notes}
+use Rattle.walk.specs.declared.Turn.the-variants.{Kept}
+
+-- ---- the test of a page
+
+module _ (endings : List ℕ) (count value : ℕ) where
+  pub page-tags : 0 < count → (form : Stack ℕ) → tags form ≡ count → false ≡ isPage endings form value
+  unfolding isPage tags
+  page-tags h bottom e = absurd (omega arith)
+  page-tags h (push s v t) e = refl
+
+  pub page-none : (b : Bool) → count ≤ 0 → b ≡ accepts 8 endings value → (form : Stack ℕ) → tags form ≡ count
+      → b ≡ isPage endings form value
+  unfolding isPage tags
+  page-none b h q bottom e = q
+  page-none b h q (push s v t) e = absurd (omega arith)
+
+  pub start-invalid : (b : Bool) (x : ℕ) → x ≡ 0 → ((form : Stack ℕ) → tags form ≡ count → b ≡ isPage endings form value)
+      → (form : Stack ℕ) → tags form ≡ count → not b ≡ invalidForm endings x form value
+  unfolding invalidForm
+  start-invalid b x z told form e = rw (eq-eqb x 0 z, told form e)
+
+  pub other-valid : (x : ℕ) → (x ≡ 0 → ⊥) → (form : Stack ℕ) → tags form ≡ count → false ≡ invalidForm endings x form value
+  unfolding invalidForm
+  other-valid x n form e = rw (ne-eqb x 0 n)
+
+-- ---- a form in the arrays
+
+module _ (endings names values : List ℕ) (x e s : ℕ) (t : List ℕ) (m : ℕ) (notes : Notes) (invalid found : Bool) (row own : List ℕ)
+    (told : (form : Stack ℕ) → tags form ≡ e + s → invalid ≡ invalidForm endings x form (getD values (e + s) 0))
+    (copied : own ≡ names) (row-is : row ≡ packed x e s own values) (told-found : found ≡ among row (rowsOf m t))
+    (holds : Holds e s names values) (small : Fits w8 x) (bytes : (k : ℕ) → Fits w8 (getD own k 0)) where
+  invalid-is : invalid ≡ invalidForm endings x (stackOf e names values (e + s)) (getD values (e + s) 0)
+  invalid-is = told (stackOf e names values (e + s)) (tags-held e (e + s) names values)
+
+  packs : RowOf row x (stackOf e names values (e + s)) (getD values (e + s) 0)
+  packs =
+      rw (row-is, copied)
+      (packed-row x e s names values (omega (arith, small .fits)) (λ k. omega (arith, (rw copied at (bytes k)) .fits)) holds)
+
+  pub note-stands : found ≡ true
+      → FormNoted endings x (stackOf e names values (e + s)) (getD values (e + s) 0) t m notes
+      (Kept m (record { invalid = notes .invalid || invalid; deep = notes .deep; crowded = notes .crowded })) t
+  note-stands f = rw invalid-is (stands row packs (sym told-found ∙ f))
+
+  pub note-no-room : found ≡ false → 256 ≤ m
+      → FormNoted endings x (stackOf e names values (e + s)) (getD values (e + s) 0) t m notes
+      (Kept m (record { invalid = notes .invalid || invalid; deep = notes .deep; crowded = true })) t
+  note-no-room f l = rw invalid-is (finds-no-room row packs (sym told-found ∙ f) l)
+
+  pub note-behind : (t′ : List ℕ) → found ≡ false → m < 256 → t′ ≡ tableOf (rowsOf m t ++ (row ∷ [])) t
+      → FormNoted endings x (stackOf e names values (e + s)) (getD values (e + s) 0) t m notes
+      (Kept (m + 1) (record { invalid = notes .invalid || invalid; deep = notes .deep; crowded = notes .crowded })) t′
+  note-behind t′ f l q = rw invalid-is (goes-behind row t′ packs (sym told-found ∙ f) l q)
+
+pub ruleset notes = (page-tags, page-none, start-invalid, other-valid, note-stands, note-no-room, note-behind, needs)

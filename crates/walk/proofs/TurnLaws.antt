@@ -1,0 +1,121 @@
+-- One pair of choices (specs/Turns.antt), in the words in which `one_turn` has it, for `search turns`: arrays of zeros hold the empty
+-- form, what is loaded stands in the arrays, and joining on the arrays says what the join is under the limit (stack's FormLaws, words'
+-- LimitLaws). Assumes nothing.
+use mathlib.Core.Path.{_≡_, refl, sym, _∙_}
+use mathlib.Core.Bool.{true, _||_}
+use mathlib.Core.List.{List}
+use Prim.Native.Nat.{ℕ, zero, suc, _+_, _≤_}
+use native.Mathlib.Omega.{arith}
+use lib.Dec.{eqb}
+use lib.ListN.{getD, replicate}
+use mir.Syntax.{w64}
+use mir.Val.{Fits}
+use borrow.Author.Needs.{needs}
+use Rattle.words.specs.Reader.{Outcome, reduced, join}
+use Rattle.words.proofs.LimitLaws.{Answers, limit-iff}
+use Rattle.hedge.specs.Operations.{relations}
+use Rattle.stack.specs.Held.{stackOf}
+use Rattle.stack.specs.Steps.{Holds, outcome, Stepped, after-form}
+use Rattle.stack.specs.declared.Step.{Step}
+use Rattle.stack.specs.declared.Step.the-variants as steps
+use Rattle.stack.proofs.FormLaws.{form-limit}
+use Rattle.walk.specs.Turns.{FormOf, Loads, FormNoted, OutcomeNoted, Turned, mismatches, is-deep, is-form, no-forms, joined}
+use Rattle.walk.specs.declared.Slot.{Slot}
+use Rattle.walk.specs.declared.Notes.{Notes}
+use Rattle.walk.specs.declared.Loaded.{Loaded}
+use Rattle.walk.specs.declared.Loaded.the-variants.{Form, Nothing}
+use Rattle.walk.specs.declared.Turn.{Turn}
+use Rattle.walk.specs.declared.Turn.the-variants.{Kept, Mismatch}
+
+-- ---- arrays of zeros
+
+abbrev pub zeros : ℕ → List ℕ
+zeros n = replicate n 0
+
+zero-at : (n k : ℕ) → getD (zeros n) k 0 ≡ 0
+zero-at zero k = refl
+zero-at (suc n) zero = refl
+zero-at (suc n) (suc k) = zero-at n k
+
+pub zeros-hold : Holds 0 0 (zeros 16) (zeros 17)
+zeros-hold =
+    record {
+      names-long = refl;
+      values-long = refl;
+      room = omega arith;
+      unused = record { names-zero = λ k l. zero-at 16 k; relations-zero = λ k l. zero-at 17 k };
+    }
+
+-- ---- what is loaded
+
+module _ (empty : ℕ) (t : List ℕ) (slot : Slot) (k : ℕ) (r : Loaded) (names values : List ℕ)
+    (loads : Loads (FormOf empty t slot k) r names values) where
+  pub loaded-holds : (e s : ℕ) → r ≡ Form e s → Holds e s names values
+  loaded-holds e s p = (rw p at loads) .0
+
+  pub loaded-room : (e s : ℕ) → r ≡ Form e s → e + s ≤ 16
+  loaded-room e s p = loaded-holds e s p .room
+
+  pub loaded-fits : (e s : ℕ) → r ≡ Form e s → Fits w64 (e + s)
+  loaded-fits e s p = record { fits = omega (arith, loaded-room e s p) }
+
+  pub loaded-form : (e s : ℕ) → r ≡ Form e s → FormOf empty t slot k (stackOf e names values (e + s)) (getD values (e + s) 0)
+  loaded-form e s p = (rw p at loads) .1
+
+-- ---- the turn
+
+pub turn-no-left : (states : ℕ) (schema endings : List ℕ) (empty : ℕ) (t : List ℕ) (left : Slot) (j : ℕ) (right : Slot) (k x m : ℕ)
+    (notes : Notes) (a : Loaded) (names values : List ℕ) → Loads (FormOf empty t left j) a names values → a ≡ Nothing
+    → Turned states schema endings empty t left j right k x m notes (Kept m notes) t
+turn-no-left states schema endings empty t left j right k x m notes a names values loads p =
+    no-forms (λ s c u d f g. (rw p at loads) s c f)
+
+module _ (states : ℕ) (schema endings : List ℕ) (empty : ℕ) (t : List ℕ) (left : Slot) (j : ℕ) (right : Slot) (k x m : ℕ) (notes : Notes)
+    (b : Loaded) (tags relations′ : List ℕ) (right-loads : Loads (FormOf empty t right k) b tags relations′) where
+  pub turn-no-right : b ≡ Nothing → Turned states schema endings empty t left j right k x m notes (Kept m notes) t
+  turn-no-right p = no-forms (λ s c u d f g. (rw p at right-loads) u d g)
+
+  module _ (a : Loaded) (names values : List ℕ) (left-loads : Loads (FormOf empty t left j) a names values) where
+    module _ (e s d u : ℕ) (left-is : a ≡ Form e s) (right-is : b ≡ Form d u) (step : Step) (names′ values′ : List ℕ)
+        (told : Stepped step names′ values′ (after-form states schema endings e s names values d tags relations′ (d + u))) where
+      -- the join of the two forms
+      abbrev pub both : Outcome ℕ
+      both =
+          join (relations 8 states schema endings) (reduced (stackOf e names values (e + s)) (getD values (e + s) 0))
+          (stackOf d tags relations′ (d + u)) (getD relations′ (d + u) 0)
+
+      answers : Answers 16 both (outcome step names′ values′)
+      answers =
+          limit-iff (relations 8 states schema endings) 16 both (outcome step names′ values′) .0
+          (sym (form-limit states schema endings e s names values d tags relations′ (d + u)
+          (loaded-room empty t left j a names values left-loads e s left-is)) ∙ sym (told .says))
+
+      turn-joined : (r : Turn) (t′ : List ℕ) → OutcomeNoted endings x both t m notes r t′
+          → Turned states schema endings empty t left j right k x m notes r t′
+      turn-joined r t′ w =
+          joined (stackOf e names values (e + s)) (getD values (e + s) 0) (stackOf d tags relations′ (d + u)) (getD relations′ (d + u) 0)
+          r t′ (loaded-form empty t left j a names values left-loads e s left-is)
+          (loaded-form empty t right k b tags relations′ right-loads d u right-is) w
+
+      pub turn-form : (e′ s′ : ℕ) (r : Turn) (t′ : List ℕ) → step ≡ steps.Kept e′ s′
+          → FormNoted endings x (stackOf e′ names′ values′ (e′ + s′)) (getD values′ (e′ + s′) 0) t m notes r t′
+          → Turned states schema endings empty t left j right k x m notes r t′
+      unfolding outcome
+      turn-form e′ s′ r t′ p w =
+          let (q, l) = rw p at answers in
+          turn-joined r t′ (is-form (stackOf e′ names′ values′ (e′ + s′)) (getD values′ (e′ + s′) 0) r t′ q l w)
+
+      pub turn-mismatch : (f g : ℕ) → step ≡ steps.Mismatch f g
+          → Turned states schema endings empty t left j right k x m notes Mismatch t
+      unfolding outcome
+      turn-mismatch f g p = turn-joined Mismatch t (mismatches f g (rw p at answers))
+
+      pub turn-deep : step ≡ steps.TooDeep
+          → Turned states schema endings empty t left j right k x m notes
+          (Kept m (record { invalid = notes .invalid || eqb x 0; deep = true; crowded = notes .crowded })) t
+      unfolding outcome
+      turn-deep p =
+          let (v, h, q, l) = rw p at answers in
+          turn-joined (Kept m (record { invalid = notes .invalid || eqb x 0; deep = true; crowded = notes .crowded })) t (is-deep v h q l)
+
+pub ruleset turns = (zeros-hold, loaded-fits, turn-no-right, needs)
