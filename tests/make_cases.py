@@ -279,11 +279,130 @@ def bad_file():
     case("N", raw(summary((), (2,), (0, 0))), "7 16 0")
 
 
+def check(budget, answer, number, images=0, rows=(), *, length=5300, fill=7):
+    """A check under the file before it. The rows are those that must stand in the worktable; a refusal leaves it as it was."""
+    end = min(length, 5120)
+    left = 0 if images >= 256 else end - 20 * images
+    zeros, filled = (0, left) if answer >= 6 else (left, 0)
+    shown_rows = "".join(f"{x} " for row in rows for x in row)
+    case("C", half(budget) + half(length) + bytes([fill]), f"{answer} {number} {images} {zeros} {filled} {length - end} {shown_rows}")
+
+
+def row(nonterminal, ends, starts, names, relations):
+    """A worktable row."""
+    names = list(names) + [0] * (16 - len(names))
+    packed = [sum(n << 8 * k for k, n in enumerate(half_names)) for half_names in (names[:8], names[8:])]
+    return [nonterminal + 256 * ends + 65536 * starts] + packed + list(relations) + [0] * (17 - len(relations))
+
+
+KT = [(0, 2, 65, 32), (1, 2, 0, 66), (2, 2, 1, 33)]
+KS = [(0, 0, 0, 1), (0, 0, 1, 0), (0, 1, 1, 1), (1, 0, 1, 1)]
+
+
+def like_k(*rules, nonterminals=3):
+    """K with these template rules in place of its own, and its schema."""
+    return file(2, nonterminals, 2, sorted(rules), KS, [1])
+
+
+def doubling(steps):
+    """One element, one ending state, rule 0, 0, 0, 0; so many nonterminals doubling start a, as many doubling end a, the start their pair."""
+    rules = [(1, 1, 0, 255), (steps + 1, 1, 32, 255), (0, 2, 64 + steps, 64 + 2 * steps)]
+    for i in list(range(2, steps + 1)) + list(range(steps + 2, 2 * steps + 1)):
+        rules.append((i, 2, 63 + i, 63 + i))
+    return file(1, 2 * steps + 1, 1, sorted(rules), [(0, 0, 0, 0)], [0])
+
+
+def chain(*last):
+    """64 nonterminals, each giving the next; the last gives one of these. Q 5, all ending, rules 0, i, 0, i+1."""
+    rules = [(i, 1, 65 + i, 255) for i in range(63)] + [(63,) + r for r in last]
+    return file(4, 64, 5, sorted(rules), [(0, i, 0, i + 1) for i in range(4)], range(5))
+
+
+def circle(base):
+    """64 nonterminals in a circle that nests one element more each time round; 4 different relations: one new image in each round."""
+    rules = [(i, 1, 65 + i, 255) for i in range(62)] + [(62, 2, 127, 32), (63, 2, 0, 64), base]
+    return file(1, 64, 6, sorted(rules), [(0, 0, 0, 1), (2, 0, 3, 1), (3, 0, 4, 1), (4, 0, 5, 1)], [0, 1, 5])
+
+
+def checks():
+    # K: its rows begin 0, 2, 65537; the budget on both sides of its 4 rounds; tables of 5,120 entries, more, and filled with other numbers
+    k_rows = [row(0, 0, 0, [], [2]), row(2, 0, 0, [], [2]), row(1, 0, 1, [0], [513, 2])]
+    sound(K, 2, 3, 2, 3, 4, 1)
+    for length in (5120, 5121, 5300):
+        for fill in (0, 1, 255):
+            if fill:
+                check(257, 0, 4, 3, k_rows, length=length, fill=fill)
+    check(4, 0, 4, 3, k_rows)
+    check(3, 5, 3)
+    check(1, 5, 1)
+    # 9, then 8, then 7, then 6
+    check(4, 9, 0, length=5119)
+    check(0, 9, 0, length=5119)
+    check(4, 9, 0, length=0)
+    check(0, 8, 0)
+    check(258, 8, 0)
+    check(65535, 8, 0)
+    bad(put(K, 16, 3), 16)
+    check(0, 8, 0)
+    check(4, 7, 16)
+    check(4, 9, 0, length=5119)
+    sound(like_k((0, 2, 64, 32)), 2, 3, 2, 1, 4, 1)
+    check(64, 6, 0)
+    sound(like_k(), 2, 3, 2, 0, 4, 1)
+    check(64, 6, 0)
+    # document 01's cases
+    sound(like_k(*KT, (2, 0, 255, 255)), 2, 3, 2, 4, 4, 1)
+    check(64, 2, 3)
+    check(2, 5, 2)
+    sound(like_k(KT[0], KT[1], (2, 2, 1, 32)), 2, 3, 2, 3, 4, 1)
+    check(64, 1, 1)
+    rows = [row(0, 0, 0, [], [1])]
+    for i in range(5):
+        rows += [row(6 + i, 2 ** i, 0, [], [1] * (2 ** i + 1)), row(1 + i, 0, 2 ** i, [], [1] * (2 ** i + 1))]
+    sound(doubling(5), 1, 11, 1, 11, 1, 1)
+    check(64, 0, 7, 11, sorted(rows))
+    sound(doubling(6), 1, 13, 1, 13, 1, 1)
+    check(64, 3, 6)
+    four = [(2, i, 32 + i) for i in range(4)]
+    sound(chain(*four), 4, 64, 5, 67, 4, 5)
+    check(65, 0, 65, 256)
+    check(64, 5, 64)
+    sound(chain(*four, (0, 255, 255)), 4, 64, 5, 68, 4, 5)
+    check(64, 4, 52)
+    check(51, 5, 51)
+    # 257 rounds are needed: a pass with 256 images, and a crowd
+    sound(circle((62, 2, 0, 32)), 1, 64, 6, 65, 4, 3)
+    check(257, 0, 257, 256)
+    check(256, 5, 256)
+    sound(circle((63, 1, 0, 255)), 1, 64, 6, 65, 4, 3)
+    check(257, 4, 257)
+    # a rule that no page uses changes no answer: not reached; reached only beside a nonterminal that derives nothing
+    sound(like_k(*KT, (3, 2, 0, 33), nonterminals=4), 2, 4, 2, 4, 4, 1)
+    check(64, 0, 4, 3, k_rows)
+    sound(like_k(*KT, (0, 2, 67, 68), (3, 2, 0, 33), nonterminals=5), 2, 5, 2, 5, 4, 1)
+    check(64, 0, 4, 3, k_rows)
+    # a mismatch under a useful nonterminal, in a round that finds no new image
+    sound(like_k((0, 2, 65, 66), (1, 1, 0, 255), (2, 1, 33, 255)), 2, 3, 2, 3, 4, 1)
+    check(64, 1, 2)
+    # a mismatch in the round of an invalid page decides; so does an invalid page in the round of a string that is too deep
+    sound(like_k((0, 1, 0, 255), (0, 1, 65, 255), (1, 2, 0, 33)), 2, 3, 2, 3, 4, 1)
+    check(64, 1, 1)
+    rules = [(1, 1, 0, 255)] + [(i, 2, 63 + i, 63 + i) for i in range(2, 6)] + [(0, 2, 69, 65)]
+    sound(file(1, 6, 1, sorted(rules), [(0, 0, 0, 0)], [0]), 1, 6, 1, 6, 1, 1)
+    check(64, 2, 6)
+    # valid is the definition, not the page reader's answer: pages that nest past 16 are in a set that passes
+    sound(file(1, 2, 1, [(0, 0, 255, 255), (0, 2, 0, 65), (1, 2, 64, 32)], [(0, 0, 0, 0)], [0]), 1, 2, 1, 3, 1, 1)
+    check(64, 0, 3, 2, [row(0, 0, 0, [], [1]), row(1, 1, 0, [0], [1, 1])])
+    page([0] * 16 + [32] * 16, 0)
+    page([0] * 17 + [32] * 17, 12, 16)
+
+
 files()
 pages()
 fragments()
 structs()
 bad_file()
+checks()
 here = os.path.join(os.path.dirname(__file__), "..", "crates", "cases")
 with open(os.path.join(here, "stdin"), "wb") as f:
     for letter, data, _ in cases:
