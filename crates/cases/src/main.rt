@@ -61,22 +61,14 @@ fn show_file(file: &[u8]) {
     }
 }
 
-fn answer(a: u64, number: usize) {
-    word(a);
-    word(number as u64);
+fn answer(a: u32, number: u64) {
+    word(a as u64);
+    word(number);
 }
 
 fn show_page(file: &[u8], bytes: &[u8]) {
     let r = page::read(file, bytes);
-    match r {
-        page::PageReply::Valid => answer(0, 0),
-        page::PageReply::BadFile(p) => answer(7, p),
-        page::PageReply::NotATag(p) => answer(10, p),
-        page::PageReply::Mismatch(p) => answer(11, p),
-        page::PageReply::TooDeep(p) => answer(12, p),
-        page::PageReply::Unmatched => answer(13, 0),
-        page::PageReply::NotDerived => answer(14, 0),
-    }
+    answer(page::answer(r), page::number(r));
     io::write_all(STDOUT_FILENO, b"\n");
 }
 
@@ -105,26 +97,14 @@ fn show_relations(relations: [u64; 17]) {
 
 fn show_fragment(r: summary::FragmentReply) {
     let a = r.answer;
-    match a {
-        summary::FragmentAnswer::Summarised => answer(0, 0),
-        summary::FragmentAnswer::BadFile(p) => answer(7, p),
-        summary::FragmentAnswer::NotATag(p) => answer(10, p),
-        summary::FragmentAnswer::Mismatch(p) => answer(11, p),
-        summary::FragmentAnswer::TooDeep(p) => answer(12, p),
-    }
+    answer(summary::fragment_answer(a), summary::fragment_number(a));
     let s = r.summary;
     show_summary(s);
 }
 
 fn show_join(r: summary::JoinReply) {
     let a = r.answer;
-    match a {
-        summary::JoinAnswer::Joined => answer(0, 0),
-        summary::JoinAnswer::BadFile(p) => answer(7, p),
-        summary::JoinAnswer::NoSummary => answer(15, 0),
-        summary::JoinAnswer::Mismatch => answer(11, 0),
-        summary::JoinAnswer::TooDeep => answer(12, 0),
-    }
+    answer(summary::join_answer(a), summary::join_number(a));
     let s = r.summary;
     show_summary(s);
 }
@@ -192,8 +172,6 @@ fn join_structs(file: &[u8], bytes: &[u8]) {
 
 // The net depths that cases have, spelled out.
 fn show_net(z: i32) {
-    word(0);
-    word(0);
     if z == -16 {
         io::write_all(STDOUT_FILENO, b"-16\n");
         return;
@@ -219,38 +197,15 @@ fn show_depth(file: &[u8], bytes: &[u8]) {
     }
     let s = summary_at(bytes, 0);
     let d = summary::net_depth(file, s);
-    match d {
-        summary::DepthReply::Net(z) => show_net(z),
-        summary::DepthReply::BadFile(p) => {
-            answer(7, p);
-            last_word(0);
-        }
-        summary::DepthReply::NoSummary => {
-            answer(15, 0);
-            last_word(0);
-        }
-    }
+    answer(summary::depth_answer(d), summary::depth_number(d));
+    show_net(summary::depth_of(d));
 }
 
 fn show_check(r: rounds::CheckReply) -> usize {
-    match r {
-        rounds::CheckReply::Passed(r, n) => {
-            answer(0, r);
-            word(n as u64);
-            return n;
-        }
-        rounds::CheckReply::Mismatch(r) => answer(1, r),
-        rounds::CheckReply::Invalid(r) => answer(2, r),
-        rounds::CheckReply::TooDeep(r) => answer(3, r),
-        rounds::CheckReply::Crowded(r) => answer(4, r),
-        rounds::CheckReply::OutOfRounds(b) => answer(5, b),
-        rounds::CheckReply::NoPage => answer(6, 0),
-        rounds::CheckReply::BadFile(p) => answer(7, p),
-        rounds::CheckReply::BadBudget => answer(8, 0),
-        rounds::CheckReply::ShortTable => answer(9, 0),
-    }
-    word(0);
-    0
+    let images = rounds::images(r);
+    answer(rounds::answer(r), rounds::number(r));
+    word(images);
+    images as usize
 }
 
 // 1 where the entry holds the number, else 0.

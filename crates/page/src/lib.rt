@@ -3,7 +3,7 @@ ghost use mathlib.Core.Path.{_≡_};
 ghost use Rattle.template.specs.Layout.{endingStates};
 ghost use Rattle.template.specs.Order.{reading};
 ghost use Rattle.template.specs.declared.Reading.the-variants.{Sound};
-ghost use Rattle.page.specs.Pages.{PageSays};
+ghost use Rattle.page.specs.Pages.{PageSays, answer, number};
 ghost use Rattle.page.specs.Endings.{balanceOf, endOf};
 
 // What the page reader answers, with the place of the fault.
@@ -77,5 +77,34 @@ pub fn read(file: &[u8], bytes: &[u8]) -> PageReply
     match r {
         template::Reading::Bad(p) => PageReply::BadFile(p),
         template::Reading::Sound(shape) => read_under(file, shape, bytes),
+    }
+}
+
+// The reply in document 01's numbers.
+pub fn answer(r: PageReply) -> u32
+    ensures { λ n. ⌜ n ≡ answer r ⌝ }
+{
+    match r {
+        PageReply::Valid => 0,
+        PageReply::BadFile(_) => 7,
+        PageReply::NotATag(_) => 10,
+        PageReply::Mismatch(_) => 11,
+        PageReply::TooDeep(_) => 12,
+        PageReply::Unmatched => 13,
+        PageReply::NotDerived => 14,
+    }
+}
+
+pub fn number(r: PageReply) -> u64
+    ensures { λ n. ⌜ n ≡ number r ⌝ }
+{
+    match r {
+        PageReply::Valid => 0,
+        PageReply::BadFile(p) => p as u64,
+        PageReply::NotATag(p) => p as u64,
+        PageReply::Mismatch(p) => p as u64,
+        PageReply::TooDeep(p) => p as u64,
+        PageReply::Unmatched => 0,
+        PageReply::NotDerived => 0,
     }
 }

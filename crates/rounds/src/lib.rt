@@ -9,6 +9,7 @@ ghost use Rattle.rows.specs.Tables.{cleared};
 ghost use Rattle.useful.specs.Marks.{MarksAll};
 ghost use Rattle.rounds.specs.Walking.{TidyUnder, ReadyUnder, WalkedUnder, Tells};
 ghost use Rattle.rounds.specs.Checks.{RuleOf, HasPage, Lent, CheckSays};
+ghost use Rattle.rounds.specs.Answers.{answer, number, images};
 
 // What the check answers, with the round and, where it passed, the number of images.
 pub enum CheckReply {
@@ -182,5 +183,57 @@ pub fn check(file: &[u8], table: &mut [u64], budget: usize) -> CheckReply
     match r {
         template::Reading::Bad(p) => CheckReply::BadFile(p),
         template::Reading::Sound(shape) => check_sound(file, shape, table, budget),
+    }
+}
+
+// The reply in document 01's numbers.
+pub fn answer(r: CheckReply) -> u32
+    ensures { λ n. ⌜ n ≡ answer r ⌝ }
+{
+    match r {
+        CheckReply::Passed(_, _) => 0,
+        CheckReply::Mismatch(_) => 1,
+        CheckReply::Invalid(_) => 2,
+        CheckReply::TooDeep(_) => 3,
+        CheckReply::Crowded(_) => 4,
+        CheckReply::OutOfRounds(_) => 5,
+        CheckReply::NoPage => 6,
+        CheckReply::BadFile(_) => 7,
+        CheckReply::BadBudget => 8,
+        CheckReply::ShortTable => 9,
+    }
+}
+
+pub fn number(r: CheckReply) -> u64
+    ensures { λ n. ⌜ n ≡ number r ⌝ }
+{
+    match r {
+        CheckReply::Passed(n, _) => n as u64,
+        CheckReply::Mismatch(n) => n as u64,
+        CheckReply::Invalid(n) => n as u64,
+        CheckReply::TooDeep(n) => n as u64,
+        CheckReply::Crowded(n) => n as u64,
+        CheckReply::OutOfRounds(n) => n as u64,
+        CheckReply::NoPage => 0,
+        CheckReply::BadFile(n) => n as u64,
+        CheckReply::BadBudget => 0,
+        CheckReply::ShortTable => 0,
+    }
+}
+
+pub fn images(r: CheckReply) -> u64
+    ensures { λ n. ⌜ n ≡ images r ⌝ }
+{
+    match r {
+        CheckReply::Passed(_, n) => n as u64,
+        CheckReply::Mismatch(_) => 0,
+        CheckReply::Invalid(_) => 0,
+        CheckReply::TooDeep(_) => 0,
+        CheckReply::Crowded(_) => 0,
+        CheckReply::OutOfRounds(_) => 0,
+        CheckReply::NoPage => 0,
+        CheckReply::BadFile(_) => 0,
+        CheckReply::BadBudget => 0,
+        CheckReply::ShortTable => 0,
     }
 }

@@ -13,18 +13,11 @@ fn line(a: u64, b: u64, c: u64) {
 }
 
 fn show(r: rounds::CheckReply) {
-    match r {
-        rounds::CheckReply::Passed(r, n) => line(0, r as u64, n as u64),
-        rounds::CheckReply::Mismatch(r) => line(1, r as u64, 0),
-        rounds::CheckReply::Invalid(r) => line(2, r as u64, 0),
-        rounds::CheckReply::TooDeep(r) => line(3, r as u64, 0),
-        rounds::CheckReply::Crowded(r) => line(4, r as u64, 0),
-        rounds::CheckReply::OutOfRounds(b) => line(5, b as u64, 0),
-        rounds::CheckReply::NoPage => line(6, 0, 0),
-        rounds::CheckReply::BadFile(p) => line(7, p as u64, 0),
-        rounds::CheckReply::BadBudget => line(8, 0, 0),
-        rounds::CheckReply::ShortTable => line(9, 0, 0),
-    }
+    line(
+        rounds::answer(r) as u64,
+        rounds::number(r),
+        rounds::images(r),
+    );
 }
 
 fn main() {

@@ -13,6 +13,7 @@ ghost use Rattle.template.specs.declared.Reading.the-variants.{Sound};
 ghost use Rattle.summary.specs.Packing.{zeros, IsSummary, every, pick, nameFits, valueFits, Small};
 ghost use Rattle.summary.specs.Fragments.{FragmentSays};
 ghost use Rattle.summary.specs.Joins.{SummaryUnder, JoinSays, DepthSays};
+ghost use Rattle.summary.specs.Answers.{fragmentAnswer, fragmentNumber, joinAnswer, joinNumber, depthAnswer, depthNumber, netDepth};
 
 // A reduced form: the numbers of its unmatched ends and starts, the names of the tags in their order, and the relation before each tag
 // and after the last.
@@ -300,5 +301,84 @@ pub fn net_depth(file: &[u8], s: Summary) -> DepthReply
             }
             DepthReply::Net(difference(s.starts, s.ends))
         }
+    }
+}
+
+// The replies in document 01's numbers.
+pub fn fragment_answer(a: FragmentAnswer) -> u32
+    ensures { λ n. ⌜ n ≡ fragmentAnswer a ⌝ }
+{
+    match a {
+        FragmentAnswer::Summarised => 0,
+        FragmentAnswer::BadFile(_) => 7,
+        FragmentAnswer::NotATag(_) => 10,
+        FragmentAnswer::Mismatch(_) => 11,
+        FragmentAnswer::TooDeep(_) => 12,
+    }
+}
+
+pub fn fragment_number(a: FragmentAnswer) -> u64
+    ensures { λ n. ⌜ n ≡ fragmentNumber a ⌝ }
+{
+    match a {
+        FragmentAnswer::Summarised => 0,
+        FragmentAnswer::BadFile(p) => p as u64,
+        FragmentAnswer::NotATag(p) => p as u64,
+        FragmentAnswer::Mismatch(p) => p as u64,
+        FragmentAnswer::TooDeep(p) => p as u64,
+    }
+}
+
+pub fn join_answer(a: JoinAnswer) -> u32
+    ensures { λ n. ⌜ n ≡ joinAnswer a ⌝ }
+{
+    match a {
+        JoinAnswer::Joined => 0,
+        JoinAnswer::BadFile(_) => 7,
+        JoinAnswer::NoSummary => 15,
+        JoinAnswer::Mismatch => 11,
+        JoinAnswer::TooDeep => 12,
+    }
+}
+
+pub fn join_number(a: JoinAnswer) -> u64
+    ensures { λ n. ⌜ n ≡ joinNumber a ⌝ }
+{
+    match a {
+        JoinAnswer::Joined => 0,
+        JoinAnswer::BadFile(p) => p as u64,
+        JoinAnswer::NoSummary => 0,
+        JoinAnswer::Mismatch => 0,
+        JoinAnswer::TooDeep => 0,
+    }
+}
+
+pub fn depth_answer(r: DepthReply) -> u32
+    ensures { λ n. ⌜ n ≡ depthAnswer r ⌝ }
+{
+    match r {
+        DepthReply::Net(_) => 0,
+        DepthReply::BadFile(_) => 7,
+        DepthReply::NoSummary => 15,
+    }
+}
+
+pub fn depth_number(r: DepthReply) -> u64
+    ensures { λ n. ⌜ n ≡ depthNumber r ⌝ }
+{
+    match r {
+        DepthReply::Net(_) => 0,
+        DepthReply::BadFile(p) => p as u64,
+        DepthReply::NoSummary => 0,
+    }
+}
+
+pub fn depth_of(r: DepthReply) -> i32
+    ensures { λ z. ⌜ z ≡ netDepth r ⌝ }
+{
+    match r {
+        DepthReply::Net(z) => z,
+        DepthReply::BadFile(_) => 0,
+        DepthReply::NoSummary => 0,
     }
 }

@@ -1,0 +1,98 @@
+-- The calls that write a row (specs/Calls.antt), on variables: a row that is too short, or a reply whose summary is written. Every reply's
+-- summary has at most 16 tags: that of a refusal is all zeros. Assumes nothing.
+use mathlib.Core.Path.{_≡_, sym, subst}
+use mathlib.Core.List.{List}
+use Prim.Native.Nat.{ℕ, _+_, _≤_, _<_}
+use native.Mathlib.Omega.{arith}
+use lib.ListN.{length}
+use borrow.Author.Needs.{needs}
+use Rattle.summary.specs.declared.Summary.{Summary}
+use Rattle.summary.specs.declared.FragmentAnswer.{FragmentAnswer}
+use Rattle.summary.specs.declared.FragmentAnswer.the-variants as fragment
+use Rattle.summary.specs.declared.FragmentReply.{FragmentReply}
+use Rattle.summary.specs.declared.JoinAnswer.{JoinAnswer}
+use Rattle.summary.specs.declared.JoinAnswer.the-variants as joined
+use Rattle.summary.specs.declared.JoinReply.{JoinReply}
+use Rattle.summary.specs.Packing.{count, zeros}
+use Rattle.summary.specs.Fragments.{FragmentAnswers, FragmentSays}
+use Rattle.summary.specs.Joins.{JoinAnswers, JoinSays}
+use Rattle.summary.specs.Answers.{fragmentAnswer, fragmentNumber, joinAnswer, joinNumber}
+use Rattle.ujthanor.specs.LentRows.{written, StandsFor}
+use Rattle.ujthanor.specs.Calls.{ShortRow, FragmentCalled, JoinCalled}
+
+-- ---- at most 16 tags
+
+zeros-few : (s : Summary) → s ≡ zeros → count s ≤ 16
+unfolding zeros
+zeros-few s e = rw e (omega arith)
+
+answered-few : (f bytes : List ℕ) (a : FragmentAnswer) (s : Summary) → FragmentAnswers f bytes a s → count s ≤ 16
+answered-few f bytes fragment.Summarised s (_, (_, _, _, packs)) = packs .few
+answered-few f bytes (fragment.BadFile p) s (_, e) = zeros-few s e
+answered-few f bytes (fragment.NotATag p) s (_, _, e) = zeros-few s e
+answered-few f bytes (fragment.Mismatch p) s (_, _, e) = zeros-few s e
+answered-few f bytes (fragment.TooDeep p) s (_, _, e) = zeros-few s e
+
+joined-few : (f : List ℕ) (left right : Summary) (a : JoinAnswer) (s : Summary) → JoinAnswers f left right a s → count s ≤ 16
+joined-few f left right joined.Joined s (_, (_, _, _, _, packs)) = packs .few
+joined-few f left right (joined.BadFile p) s (_, e) = zeros-few s e
+joined-few f left right joined.NoSummary s (_, _, e) = zeros-few s e
+joined-few f left right joined.Mismatch s (_, _, e) = zeros-few s e
+joined-few f left right joined.TooDeep s (_, _, e) = zeros-few s e
+
+pub fragment-few : (f bytes : List ℕ) (r : FragmentReply) → FragmentSays f bytes r → r .summary .ends + r .summary .starts ≤ 16
+fragment-few f bytes r says = answered-few f bytes (r .answer) (r .summary) says
+
+pub join-few : (f : List ℕ) (left right : Summary) (r : JoinReply) → JoinSays f left right r
+    → r .summary .ends + r .summary .starts ≤ 16
+join-few f left right r says = joined-few f left right (r .answer) (r .summary) says
+
+-- ---- a fragment
+
+module _ (f bytes row : List ℕ) (a n : ℕ) (row′ : List ℕ) where
+  pub fragment-short : length row < 20 → a ≡ 17 → n ≡ 0 → row′ ≡ row → FragmentCalled f bytes row a n row′
+  fragment-short short e d same =
+      record {
+        short-row = λ _. record { answer-is = e; number-is = d; unchanged = same };
+        else-written = λ l. absurd (omega (arith, l, short));
+      }
+
+  pub fragment-written : (r : FragmentReply) → 20 ≤ length row → FragmentSays f bytes r → a ≡ fragmentAnswer (r .answer)
+      → n ≡ fragmentNumber (r .answer) → row′ ≡ written row (r .summary) → FragmentCalled f bytes row a n row′
+  fragment-written r long says e d w =
+      record {
+        short-row = λ l. absurd (omega (arith, l, long));
+        else-written = λ _. record { reply = r; says = says; answer-is = e; number-is = d; row-is = w };
+      }
+
+-- ---- a join
+
+module _ (f left right row : List ℕ) (a n : ℕ) (row′ : List ℕ) where
+  pub join-short : length row < 20 → a ≡ 17 → n ≡ 0 → row′ ≡ row → JoinCalled f left right row a n row′
+  join-short short e d same =
+      record {
+        short-row = λ _. record { answer-is = e; number-is = d; unchanged = same };
+        else-written = λ l. absurd (omega (arith, l, short));
+      }
+
+  pub join-written : (l m : Summary) (r : JoinReply) → 20 ≤ length row → StandsFor left l → StandsFor right m → JoinSays f l m r
+      → a ≡ joinAnswer (r .answer) → n ≡ joinNumber (r .answer) → row′ ≡ written row (r .summary)
+      → JoinCalled f left right row a n row′
+  join-written l m r long first second says e d w =
+      record {
+        short-row = λ l. absurd (omega (arith, l, long));
+        else-written = λ _.
+            record {
+              first = l;
+              second = m;
+              reply = r;
+              left-lent = first;
+              right-lent = second;
+              says = says;
+              answer-is = e;
+              number-is = d;
+              row-is = w;
+            };
+      }
+
+pub ruleset calls = (fragment-few, join-few, fragment-short, fragment-written, join-short, join-written, needs)

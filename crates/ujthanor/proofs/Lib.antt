@@ -1,0 +1,4 @@
+pub mod LentLaws
+pub mod CallLaws
+pub mod UniqueLaws
+pub mod ReadBackLaws

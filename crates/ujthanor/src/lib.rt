@@ -1,0 +1,141 @@
+// What C and Rust link: numbers and slices only. Each call hands on to the crate that makes its promise, and lays the reply out in document
+// 01's numbers. A summary is a row of 20 entries in the worktable's layout, its nonterminal part 0. Nothing is asked of what is lent.
+ghost use mathlib.Core.Path.{_≡_};
+ghost use Prim.Native.Nat.{_+_, _≤_};
+ghost use lib.ListN.{length};
+ghost use Rattle.ujthanor.specs.LentRows.{written, noSummary, StandsFor};
+ghost use Rattle.ujthanor.specs.Calls.{CheckCalled, PageCalled, FragmentCalled, JoinCalled, DepthCalled};
+
+// Checks a template set: the answer, its number and the images; the worktable as `rounds::check` leaves it.
+#[no_mangle]
+pub extern "C" fn ujthanor_check(
+    file: &[u8],
+    table: &mut [u64],
+    budget: usize,
+    number: &mut u64,
+    images: &mut u64,
+) -> u32
+    ensures { λ r. ⌜ CheckCalled (now (file .entry)) (now (table .entry)) budget r (now (number .exit)) (now (images .exit)) (now (table .exit)) ⌝ }
+{
+    let r = rounds::check(file, table, budget);
+    *number = rounds::number(r);
+    *images = rounds::images(r);
+    rounds::answer(r)
+}
+
+// Reads a page: the answer and its number.
+#[no_mangle]
+pub extern "C" fn ujthanor_page(file: &[u8], bytes: &[u8], number: &mut u64) -> u32
+    ensures { λ r. ⌜ PageCalled (now (file .entry)) (now (bytes .entry)) r (now (number .exit)) ⌝ }
+{
+    let r = page::read(file, bytes);
+    *number = page::number(r);
+    page::answer(r)
+}
+
+// Writes the row of a summary over the first 20 entries.
+fn put_summary(row: &mut [u64], s: summary::Summary)
+    requires { ⌜ 20 ≤ length (now row) ⌝ }
+    requires { ⌜ s .ends + s .starts ≤ 16 ⌝ }
+    ensures { λ r. ⌜ now (row .exit) ≡ written (now (row .entry)) s ⌝ }
+{
+    let names = s.names;
+    let relations = s.relations;
+    let packed = rows::pack(0, s.ends, s.starts, &names, &relations);
+    rows::add(row, 0, &packed);
+}
+
+// Summarises a fragment: the answer and its number; the summary in the row. A row under 20 entries is refused first, with 17.
+#[no_mangle]
+pub extern "C" fn ujthanor_fragment(
+    file: &[u8],
+    bytes: &[u8],
+    row: &mut [u64],
+    number: &mut u64,
+) -> u32
+    ensures { λ r. ⌜ FragmentCalled (now (file .entry)) (now (bytes .entry)) (now (row .entry)) r (now (number .exit)) (now (row .exit)) ⌝ }
+{
+    if row.len() < 20 {
+        *number = 0;
+        return 17;
+    }
+    let r = summary::fragment(file, bytes);
+    put_summary(row, r.summary);
+    let a = r.answer;
+    *number = summary::fragment_number(a);
+    summary::fragment_answer(a)
+}
+
+// A struct of more than 16 tags, which is no summary under any file.
+fn no_summary() -> summary::Summary
+    ensures { λ r. ⌜ r ≡ noSummary ⌝ }
+{
+    summary::Summary {
+        ends: 17,
+        starts: 0,
+        names: [0u8; 16],
+        relations: [0u64; 17],
+    }
+}
+
+// The struct that a lent row stands for.
+fn lent(row: &[u64]) -> summary::Summary
+    ensures { λ r. ⌜ StandsFor (now (row .entry)) r ⌝ }
+{
+    if row.len() != 20 {
+        return no_summary();
+    }
+    if rows::nonterminal(row) != 0 {
+        return no_summary();
+    }
+    let mut names = [0u8; 16];
+    let mut relations = [0u64; 17];
+    let c = rows::unpack(row, &mut names, &mut relations);
+    summary::Summary {
+        ends: c.ends,
+        starts: c.starts,
+        names: names,
+        relations: relations,
+    }
+}
+
+// Joins two summaries: the answer and its number; the joined summary in the row. A row under 20 entries is refused first, with 17.
+#[no_mangle]
+pub extern "C" fn ujthanor_join(
+    file: &[u8],
+    left: &[u64],
+    right: &[u64],
+    row: &mut [u64],
+    number: &mut u64,
+) -> u32
+    ensures { λ r. ⌜ JoinCalled (now (file .entry)) (now (left .entry)) (now (right .entry)) (now (row .entry)) r (now (number .exit)) (now (row .exit)) ⌝ }
+{
+    if row.len() < 20 {
+        *number = 0;
+        return 17;
+    }
+    let first = lent(left);
+    let second = lent(right);
+    let j = summary::join(file, first, second);
+    put_summary(row, j.summary);
+    let a = j.answer;
+    *number = summary::join_number(a);
+    summary::join_answer(a)
+}
+
+// The net depth of a summary: the answer, its number and the depth.
+#[no_mangle]
+pub extern "C" fn ujthanor_net_depth(
+    file: &[u8],
+    row: &[u64],
+    number: &mut u64,
+    depth: &mut i32,
+) -> u32
+    ensures { λ r. ⌜ DepthCalled (now (file .entry)) (now (row .entry)) r (now (number .exit)) (now (depth .exit)) ⌝ }
+{
+    let s = lent(row);
+    let d = summary::net_depth(file, s);
+    *number = summary::depth_number(d);
+    *depth = summary::depth_of(d);
+    summary::depth_answer(d)
+}
