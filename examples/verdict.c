@@ -1,0 +1,62 @@
+/* From templates to verdict: checks a template set, reads three pages, and puts a page together from two cached fragments.
+ *
+ *     cc -Iinclude examples/verdict.c target/staticlib/libujthanor.a -o target/verdict && target/verdict
+ *
+ * The set is file K of document 01: elements a (0) and b (1). Its templates write <a><b></b></a>:
+ *     page    -> opening </a>       opening -> <a> middle       middle -> <b> </b>
+ * and its schema asks for exactly one b among any a. */
+#include <stdio.h>
+#include <string.h>
+
+#include "ujthanor.h"
+
+static const uint8_t K[] = {
+    2, 3, 2, 0,                                     /* 2 names, 3 nonterminals, 2 states */
+    16, 0, 3, 0, 28, 0, 4, 0, 44, 0, 1, 0,          /* contents: offset and count of each body */
+    0, 2, 65, 32, 1, 2, 0, 66, 2, 2, 1, 33,         /* template rules: left side, length, two symbols */
+    0, 0, 0, 1, 0, 0, 1, 0, 0, 1, 1, 1, 1, 0, 1, 1, /* schema rules: X, a, Y, Z */
+    1                                               /* the ending state */
+};
+
+static void check(const char *what, const uint8_t *file, size_t len) {
+    static uint64_t table[UJTHANOR_TABLE];
+    uint64_t number, images;
+    uint32_t answer = ujthanor_check(file, len, table, UJTHANOR_TABLE, UJTHANOR_BUDGET, &number, &images);
+    printf("%s: answer %u, number %llu, images %llu\n", what, answer, (unsigned long long)number, (unsigned long long)images);
+}
+
+static void page(const char *what, const uint8_t *bytes, size_t len) {
+    uint64_t number;
+    uint32_t answer = ujthanor_page(K, sizeof K, bytes, len, &number);
+    printf("page %s: answer %u, number %llu\n", what, answer, (unsigned long long)number);
+}
+
+int main(void) {
+    /* every page of K is valid; with one more rule, an empty `middle`, some page is not */
+    check("K", K, sizeof K);
+    uint8_t broken[sizeof K + 4];
+    memcpy(broken, K, 24);
+    memcpy(broken + 24, (const uint8_t[]){2, 0, 255, 255}, 4);
+    memcpy(broken + 28, K + 24, sizeof K - 24);
+    broken[6] = 4, broken[8] = 32, broken[12] = 48;
+    check("K with an empty middle", broken, sizeof broken);
+    check("half of K", K, 20);
+
+    page("<a><b></b></a>", (const uint8_t[]){0, 1, 33, 32}, 4);
+    page("<a></b>", (const uint8_t[]){0, 33}, 2);
+    page("<b></b><b></b>", (const uint8_t[]){1, 33, 1, 33}, 4);
+
+    /* <a><b> from one cache, </b></a> from another */
+    uint64_t head[UJTHANOR_ROW], tail[UJTHANOR_ROW], whole[UJTHANOR_ROW], number;
+    int32_t depth;
+    ujthanor_fragment(K, sizeof K, (const uint8_t[]){0, 1}, 2, head, UJTHANOR_ROW, &number);
+    ujthanor_fragment(K, sizeof K, (const uint8_t[]){33, 32}, 2, tail, UJTHANOR_ROW, &number);
+    ujthanor_net_depth(K, sizeof K, head, UJTHANOR_ROW, &number, &depth);
+    printf("head: net depth %d\n", depth);
+    uint32_t answer = ujthanor_join(K, sizeof K, head, UJTHANOR_ROW, tail, UJTHANOR_ROW, whole, UJTHANOR_ROW, &number);
+    printf("head and tail: answer %u, %s, relation %llu\n", answer, whole[0] == 0 ? "no tags left" : "tags left",
+           (unsigned long long)whole[3]);
+    answer = ujthanor_join(K, sizeof K, tail, UJTHANOR_ROW, head, 19, whole, UJTHANOR_ROW, &number);
+    printf("a row cut short: answer %u\n", answer);
+    return 0;
+}
