@@ -1,6 +1,6 @@
 -- Demand 1 (specs/First.antt). Each promise says of its reply why it was due, and what is due excludes what another reply would say: a
 -- file is sound or bad, a table long or short, a budget in range or not. So each equivalence holds on both sides or on neither, by cases on
--- the reply. What a check leaves is in WorktableLaws. Assumes nothing.
+-- the reply. What a check leaves is in WorktableLaws, what a call leaves in a lent row in LentRowLaws. Assumes nothing.
 use mathlib.Core.Path.{_≡_, refl}
 use mathlib.Core.List.{List}
 use mathlib.Core.Logic.{_↔_}
@@ -31,6 +31,7 @@ use Rattle.rounds.specs.declared.CheckReply.the-variants as check
 use Rattle.demands.specs.First.{CheckOrder, FileFirst, FirstDemand}
 use Rattle.demands.proofs.Sides.{both, neither}
 use Rattle.demands.proofs.WorktableLaws.{worktable}
+use Rattle.demands.proofs.LentRowLaws.{fragment-row, join-row}
 
 -- ---- the file first
 
@@ -148,4 +149,6 @@ first-demand = record {
   fragment-file-first = λ f bytes r says. fragment-first f bytes (r .answer) (r .summary) says;
   join-file-first = λ f left right r says. join-first f left right (r .answer) (r .summary) says;
   depth-file-first = λ f s r says. depth-first f s r says;
+  fragment-row = λ f bytes row a n row′ called. fragment-row f bytes row a n row′ called;
+  join-row = λ f left right row a n row′ called. join-row f left right row a n row′ called;
 }

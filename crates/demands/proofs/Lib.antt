@@ -1,6 +1,7 @@
 pub mod Sides
 pub mod RowCountLaws
 pub mod WorktableLaws
+pub mod LentRowLaws
 pub mod FirstLaws
 pub mod NestLaws
 pub mod ProducedLaws

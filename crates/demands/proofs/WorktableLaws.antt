@@ -21,10 +21,10 @@ use Rattle.demands.proofs.RowCountLaws.{rows-few, rows-are-wide}
 
 -- n entries, and the table's own rest behind them
 module _ (n : ℕ) (front t : List ℕ) (long : length front ≡ n) (room : n ≤ length t) where
-  fronted-rest : drop n (front ++ drop n t) ≡ drop n t
+  pub fronted-rest : drop n (front ++ drop n t) ≡ drop n t
   fronted-rest = drop-at front (drop n t) n long
 
-  fronted-length : length (front ++ drop n t) ≡ length t
+  pub fronted-length : length (front ++ drop n t) ≡ length t
   fronted-length = rw (length-append, length-drop, long) (omega (arith, room))
 
 -- the rows, then zeros up to entry n

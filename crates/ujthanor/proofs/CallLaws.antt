@@ -1,11 +1,12 @@
 -- The calls that write a row (specs/Calls.antt), on variables: a row that is too short, or a reply whose summary is written. Every reply's
 -- summary has at most 16 tags: that of a refusal is all zeros. Assumes nothing.
-use mathlib.Core.Path.{_≡_, sym, subst}
+use mathlib.Core.Path.{_≡_, refl}
 use mathlib.Core.List.{List}
 use Prim.Native.Nat.{ℕ, _+_, _≤_, _<_}
 use native.Mathlib.Omega.{arith}
 use lib.ListN.{length}
 use borrow.Author.Needs.{needs}
+use Rattle.words.specs.Reduced.{Stack}
 use Rattle.summary.specs.declared.Summary.{Summary}
 use Rattle.summary.specs.declared.FragmentAnswer.{FragmentAnswer}
 use Rattle.summary.specs.declared.FragmentAnswer.the-variants as fragment
@@ -13,39 +14,57 @@ use Rattle.summary.specs.declared.FragmentReply.{FragmentReply}
 use Rattle.summary.specs.declared.JoinAnswer.{JoinAnswer}
 use Rattle.summary.specs.declared.JoinAnswer.the-variants as joined
 use Rattle.summary.specs.declared.JoinReply.{JoinReply}
-use Rattle.summary.specs.Packing.{count, zeros}
+use Rattle.summary.specs.Packing.{Packs, zeros}
 use Rattle.summary.specs.Fragments.{FragmentAnswers, FragmentSays}
 use Rattle.summary.specs.Joins.{JoinAnswers, JoinSays}
 use Rattle.summary.specs.Answers.{fragmentAnswer, fragmentNumber, joinAnswer, joinNumber}
 use Rattle.ujthanor.specs.LentRows.{written, StandsFor}
 use Rattle.ujthanor.specs.Calls.{ShortRow, FragmentCalled, JoinCalled}
 
--- ---- at most 16 tags
+-- ---- the summary of a reply with answer a
 
-zeros-few : (s : Summary) → s ≡ zeros → count s ≤ 16
+-- at most 16 tags and 17 relations, all zeros where the reply is a refusal
+pub record Made (a : ℕ) (s : Summary) : Type 0 where
+  pub low : a ≤ 15
+  pub few : s .ends + s .starts ≤ 16
+  pub room : length (s .relations) ≡ 17
+  pub zero : 1 ≤ a → s ≡ zeros
+
+packed-made : (s : Summary) (t : Stack ℕ) (c : ℕ) → Packs s t c → Made 0 s
+packed-made s t c packs =
+    record { low = omega arith; few = packs .few; room = packs .relations-room; zero = λ h. absurd (omega (arith, h)) }
+
+refused-made : (a : ℕ) (s : Summary) → a ≤ 15 → s ≡ zeros → Made a s
 unfolding zeros
-zeros-few s e = rw e (omega arith)
+refused-made a s low e = record { low = low; few = rw e (omega arith); room = rw e refl; zero = λ _. e }
 
-answered-few : (f bytes : List ℕ) (a : FragmentAnswer) (s : Summary) → FragmentAnswers f bytes a s → count s ≤ 16
-answered-few f bytes fragment.Summarised s (_, (_, _, _, packs)) = packs .few
-answered-few f bytes (fragment.BadFile p) s (_, e) = zeros-few s e
-answered-few f bytes (fragment.NotATag p) s (_, _, e) = zeros-few s e
-answered-few f bytes (fragment.Mismatch p) s (_, _, e) = zeros-few s e
-answered-few f bytes (fragment.TooDeep p) s (_, _, e) = zeros-few s e
+answered-made : (f bytes : List ℕ) (a : FragmentAnswer) (s : Summary) → FragmentAnswers f bytes a s → Made (fragmentAnswer a) s
+answered-made f bytes fragment.Summarised s (_, (t, c, _, packs)) = packed-made s t c packs
+answered-made f bytes (fragment.BadFile p) s (_, e) = refused-made 7 s (omega arith) e
+answered-made f bytes (fragment.NotATag p) s (_, _, e) = refused-made 10 s (omega arith) e
+answered-made f bytes (fragment.Mismatch p) s (_, _, e) = refused-made 11 s (omega arith) e
+answered-made f bytes (fragment.TooDeep p) s (_, _, e) = refused-made 12 s (omega arith) e
 
-joined-few : (f : List ℕ) (left right : Summary) (a : JoinAnswer) (s : Summary) → JoinAnswers f left right a s → count s ≤ 16
-joined-few f left right joined.Joined s (_, (_, _, _, _, packs)) = packs .few
-joined-few f left right (joined.BadFile p) s (_, e) = zeros-few s e
-joined-few f left right joined.NoSummary s (_, _, e) = zeros-few s e
-joined-few f left right joined.Mismatch s (_, _, e) = zeros-few s e
-joined-few f left right joined.TooDeep s (_, _, e) = zeros-few s e
+joined-made : (f : List ℕ) (left right : Summary) (a : JoinAnswer) (s : Summary) → JoinAnswers f left right a s → Made (joinAnswer a) s
+joined-made f left right joined.Joined s (_, (t, c, _, _, packs)) = packed-made s t c packs
+joined-made f left right (joined.BadFile p) s (_, e) = refused-made 7 s (omega arith) e
+joined-made f left right joined.NoSummary s (_, _, e) = refused-made 15 s (omega arith) e
+joined-made f left right joined.Mismatch s (_, _, e) = refused-made 11 s (omega arith) e
+joined-made f left right joined.TooDeep s (_, _, e) = refused-made 12 s (omega arith) e
+
+pub fragment-made : (f bytes : List ℕ) (r : FragmentReply) → FragmentSays f bytes r → Made (fragmentAnswer (r .answer)) (r .summary)
+fragment-made f bytes r says = answered-made f bytes (r .answer) (r .summary) says
+
+pub join-made : (f : List ℕ) (left right : Summary) (r : JoinReply) → JoinSays f left right r
+    → Made (joinAnswer (r .answer)) (r .summary)
+join-made f left right r says = joined-made f left right (r .answer) (r .summary) says
 
 pub fragment-few : (f bytes : List ℕ) (r : FragmentReply) → FragmentSays f bytes r → r .summary .ends + r .summary .starts ≤ 16
-fragment-few f bytes r says = answered-few f bytes (r .answer) (r .summary) says
+fragment-few f bytes r says = fragment-made f bytes r says .few
 
 pub join-few : (f : List ℕ) (left right : Summary) (r : JoinReply) → JoinSays f left right r
     → r .summary .ends + r .summary .starts ≤ 16
-join-few f left right r says = joined-few f left right (r .answer) (r .summary) says
+join-few f left right r says = join-made f left right r says .few
 
 -- ---- a fragment
 
