@@ -15,7 +15,8 @@ use Rattle.template.specs.Order.{firstFault, test, fieldTests, width, pr
 use Rattle.template.specs.declared.Fault.the-variants.{Nowhere}
 use Rattle.template.specs.declared.Body.{Body}
 use Rattle.template.specs.declared.Body.the-variants.{Templates, Schema, Endings}
-use Rattle.template.proofs.SoundLaws.{SoundFile, AllHold, nowhere-holds, first-nowhere, first-append-nowhere}
+use Rattle.template.proofs.OrderLaws.{TestsHold, nowhere-holds, first-nowhere, first-append-nowhere}
+use Rattle.template.proofs.SoundLaws.{SoundFile}
 use Rattle.template.proofs.ListLaws.{part-entry, rules-fit, schema-rules-fit}
 use Rattle.template.proofs.AscendingLaws.{Ascending}
 
@@ -66,7 +67,7 @@ width-positive Endings = omega arith
 
 -- the entries of a body of the file
 module _ (b : Body) (f : List ℕ) (first n : ℕ) (e : firstFault (body b f first n) ≡ Nowhere) where
-  pub fields-hold : (i : ℕ) → i < n → AllHold (fieldTests b (names f) (nonterminals f) (states f) f (first + width b * i))
+  pub fields-hold : (i : ℕ) → i < n → TestsHold (fieldTests b (names f) (nonterminals f) (states f) f (first + width b * i))
   fields-hold i h =
       nowhere-holds (fieldTests b (names f) (nonterminals f) (states f) f (first + width b * i))
       (body-fields b (names f) (nonterminals f) (states f) f first n e i h)
