@@ -15,10 +15,10 @@ use Rattle.summary.specs.Fragments.{schemaOf, binoidOf}
 use Rattle.summary.proofs.ShapeLaws.{lawsOf}
 use Rattle.trees.specs.Events.{Pair}
 use Rattle.trees.specs.Verdict.{Decides, passed}
-use Rattle.trees.proofs.RoundLaws.{balanced-not-mismatched}
+use Rattle.words.proofs.MismatchLaws.{balanced-not-mismatched}
 use Rattle.trees.proofs.VerdictLaws.{pass-valid}
-use Rattle.rounds.specs.Checks.{RuleOf, ImageOf, EventOf, NewOf, Rows}
-use Rattle.rounds.proofs.ListedLaws.{Packs, packs-pair}
+use Rattle.rounds.specs.Checks.{PairRow, RuleOf, ImageOf, EventOf, NewOf, Rows}
+use Rattle.rounds.proofs.ListedLaws.{row-one-pair}
 use Rattle.rounds.proofs.FormLaws.{PageForm, form-decided, valid-form}
 use Rattle.demands.specs.Third.{Produces}
 
@@ -52,7 +52,7 @@ module _ (f : List ℕ) (sound : IsSound f) where
   module _ (budget r : ℕ) (decides : Decides (EventOf f) (NewOf f) budget (passed r)) (rows : List (List ℕ)) (made : Rows f r rows) where
     -- the row's image was there the round before
     abbrev Before : List ℕ → Type 0
-    Before row = (p : Pair ℕ) × ImageOf f (pred r) p × Packs row p
+    Before row = (p : Pair ℕ) × ImageOf f (pred r) p × PairRow row p
 
     each-before : (row : List ℕ) → List·Memᴰ row rows → (Before row → ⊥) → ⊥
     each-before row m fails =
@@ -64,7 +64,7 @@ module _ (f : List ℕ) (sound : IsSound f) where
     all-before before p i =
         let (row, m, c) = made .every-image p i in
         let (q, j, d) = before row m in
-        subst (ImageOf f (pred r)) (packs-pair row q p d c) j
+        subst (ImageOf f (pred r)) (row-one-pair row q p d c) j
 
     pub passed-valid : (w : List Tag) → Produces f w → Valid (schemaOf f) w
     passed-valid w (n, tree) = from (valid-decided w)

@@ -15,7 +15,7 @@ use Rattle.rows.proofs.SortLaws.{ascending-unique}
 use Rattle.rounds.specs.declared.CheckReply.{CheckReply}
 use Rattle.rounds.specs.declared.CheckReply.the-variants as check
 use Rattle.rounds.specs.Checks.{EventOf, NewOf, HasPage, Rows, shown, zeroed, Lent, Decided, CheckSays}
-use Rattle.rounds.proofs.ListedLaws.{packs-row}
+use Rattle.rounds.proofs.ListedLaws.{pair-one-row}
 
 -- ---- one list of rows
 
@@ -24,7 +24,7 @@ rows-included : (f : List ℕ) (r : ℕ) (rows rows′ : List (List ℕ)) → Ro
 rows-included f r rows rows′ a b row m =
     let (p, i, c) = a .each-image row m in
     let (row′, n, d) = b .every-image p i in
-    Memᴰ·cast (packs-row row row′ p c d) n
+    Memᴰ·cast (pair-one-row row row′ p c d) n
 
 pub rows-unique : (f : List ℕ) (r : ℕ) (rows rows′ : List (List ℕ)) → Rows f r rows → Rows f r rows′ → rows ≡ rows′
 rows-unique f r rows rows′ a b =

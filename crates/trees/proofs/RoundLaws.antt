@@ -12,10 +12,10 @@ use Rattle.words.specs.Balance.{Balanced, Mismatched}
 use Rattle.words.specs.Binoid.{Binoid, Laws}
 use Rattle.words.specs.Reduced.{Stack, tags, Reduced}
 use Rattle.words.specs.Reader.{Outcome, reduced, differ, nothing-read, then-tag, run, read, join}
-use Rattle.words.proofs.ReducedLaws.{reduced-good, balanced-iff}
+use Rattle.words.proofs.ReducedLaws.{reduced-good}
 use Rattle.words.proofs.StepLaws.{GoodOutcome, good-tag}
 use Rattle.words.proofs.ReadLaws.{Told, run-nil, run-cons, run-append, told-read, read-reduced}
-use Rattle.words.proofs.MismatchLaws.{never-both, read-is-reduced, read-is-differ}
+use Rattle.words.proofs.MismatchLaws.{balanced-not-mismatched, read-is-reduced, read-is-differ}
 use Rattle.words.proofs.JoinLaws.{good-join, run-join}
 use Rattle.template.specs.Grammar.{Symbol}
 use Rattle.trees.specs.Trees.{Useful}
@@ -29,9 +29,6 @@ use Rattle.trees.proofs.EventLaws.{under-within, within-under, under-ro
 abbrev pub InvalidOutcome : {H : Type 0} → (Stack H → H → Type 0) → Outcome H → Type 0
 InvalidOutcome ValidForm (reduced s c) = ValidForm s c → ⊥
 InvalidOutcome ValidForm (differ a b) = Unit {0}
-
-pub balanced-not-mismatched : (B : Binoid) → Laws B → {w : List Tag} → Balanced w → Mismatched w → ⊥
-balanced-not-mismatched B L b m = never-both B L (balanced-iff B .0 b .1) m
 
 -- results depend on the images alone
 

@@ -17,7 +17,7 @@ use Rattle.trees.specs.Events.{Pair, Image, Mismatch, InvalidPage, New, 
 use Rattle.trees.specs.Verdict.{Quiet, Decides, passed}
 use Rattle.trees.proofs.UsefulLaws.{start-useful, context}
 use Rattle.trees.proofs.EventLaws.{invalid-later}
-use Rattle.trees.proofs.RoundLaws.{balanced-not-mismatched}
+use Rattle.words.proofs.MismatchLaws.{balanced-not-mismatched}
 use Rattle.trees.proofs.StableLaws.{string-image}
 
 module _ (Rule : ℕ → List Symbol → Type 0) (B : Binoid) (Valid : List Tag → Type 0) (most cap : ℕ) where

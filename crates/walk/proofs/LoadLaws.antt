@@ -19,7 +19,7 @@ use Rattle.stack.proofs.TurnLaws.{holds-value}
 use Rattle.rows.specs.Packed.{nonterminalIn, endsIn, startsIn, namesIn, RowOf}
 use Rattle.rows.proofs.RowLaws.{row-nonterminal, row-holds, row-form, row-last}
 use Rattle.walk.specs.Slots.{rowAt, slotOf, leftSlot, rightSlot}
-use Rattle.walk.specs.Turns.{slotFits, leftsOf, rightFrom, Packs, Choosable, TagForm, FormOf, Loads}
+use Rattle.walk.specs.Turns.{slotFits, leftsOf, rightFrom, SomePairRow, Choosable, TagForm, FormOf, Loads}
 use Rattle.walk.specs.declared.Slot.{Slot}
 use Rattle.walk.specs.declared.Slot.the-variants.{Absent, Single, Rows}
 use Rattle.walk.specs.declared.Loaded.{Loaded}
@@ -94,7 +94,7 @@ module _ (s : Slot) (k : ℕ) (t : List ℕ) where
   pub row-within : (x : ℕ) → Choosable t s k → s ≡ Rows x → k * 20 + 20 ≤ length t
   row-within x c e = (rw e at c) .0
 
-  pub row-packs : (x : ℕ) → Choosable t s k → s ≡ Rows x → Packs (rowAt t k)
+  pub row-packs : (x : ℕ) → Choosable t s k → s ≡ Rows x → SomePairRow (rowAt t k)
   row-packs x c e = (rw e at c) .1
 
 -- ---- a row, as a part of the table
@@ -162,7 +162,7 @@ module _ (empty : ℕ) (t : List ℕ) (s : Slot) (k : ℕ) (names values : List 
   pub loads-rows : (x : ℕ) → s ≡ Rows x → Loads (RowOf (rowAt t k) x) r names values → Loads (FormOf empty t s k) r names values
   loads-rows x e w = rw e w
 
-module _ (t : List ℕ) (k x : ℕ) (fits : Bool) (told : fits ≡ eqb (nonterminalIn (rowAt t k)) x) (packs : Packs (rowAt t k)) where
+module _ (t : List ℕ) (k x : ℕ) (fits : Bool) (told : fits ≡ eqb (nonterminalIn (rowAt t k)) x) (packs : SomePairRow (rowAt t k)) where
   pub loads-row : (e s : ℕ) (names values : List ℕ) → fits ≡ true
       → e ≡ endsIn (take (k * 20 + 20 - k * 20) (drop (k * 20) t))
       → s ≡ startsIn (take (k * 20 + 20 - k * 20) (drop (k * 20) t))

@@ -12,6 +12,7 @@ use Rattle.words.specs.Binoid.{Binoid, Laws}
 use Rattle.words.specs.Reduced.{Stack, push, Reduced}
 use Rattle.words.specs.Reader.{Outcome, reduced, differ, nothing-read, run, read}
 use Rattle.words.proofs.ValueLaws.{balanced-value}
+use Rattle.words.proofs.ReducedLaws.{balanced-iff}
 use Rattle.words.proofs.StepLaws.{step-start, step-other}
 use Rattle.words.proofs.ReadLaws.{Told, run-append, run-differ, run-tag, run-unit, run-reduced, told-read, reduced-unique}
 
@@ -49,6 +50,9 @@ module _ (B : Binoid) (L : Laws B) where
 
   pub never-both : {w : List Tag} {s : Stack (B .H)} {c : B .H} → Reduced B w s c → Mismatched w → ⊥
   never-both r m = let (a, b, e) = run-mismatched m (nothing-read B) in reduced-not-differ (sym (run-reduced B L r) ∙ e)
+
+  pub balanced-not-mismatched : {w : List Tag} → Balanced w → Mismatched w → ⊥
+  balanced-not-mismatched b m = never-both (balanced-iff B .0 b .1) m
 
   pub one-of : (w : List Tag) → ((s : Stack (B .H)) × (c : B .H) × Reduced B w s c) ⊎ Mismatched w
   one-of w = from (read B w) (told-read B L w)

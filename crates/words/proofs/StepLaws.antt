@@ -129,3 +129,8 @@ module _ (B : Binoid) where
     unfolding then-value
     good-value (reduced s c) h (gs, gc) gh = (gs, L .good-compose gc gh)
     good-value (differ a b) h g gh = tt
+
+    -- the unit changes nothing
+    pub value-unit : (o : Outcome (B .H)) → GoodOutcome (L .Good) o → then-value B o (B .unit) ≡ o
+    value-unit (reduced s c) (gs, gc) = rw (value-reduced, L .unit-right gc)
+    value-unit (differ a b) g = value-differ a b (B .unit)
