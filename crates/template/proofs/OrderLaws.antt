@@ -1,7 +1,7 @@
--- The first fault of a list of tests: of two lists after each other, of a list without a fault, and of a chain of single tests.
--- By cases on the fault that is there already, or by induction on the tests that come first. Assumes nothing.
+-- The first fault of a list of tests: of two lists after each other, of a list without a fault (all its tests hold), and of a chain of
+-- single tests. By cases on the fault that is there already, or by induction on the tests that come first. Assumes nothing.
 use mathlib.Core.Path.{_≡_, refl, sym, _∙_}
-use mathlib.Core.Bool.{Bool, true, false, _||_}
+use mathlib.Core.Bool.{Bool, true, false}
 use mathlib.Core.List.{List, [], _∷_, _++_}
 use Prim.Native.Nat.{ℕ}
 use Rattle.template.specs.Order.{Test, test, unless, firstFault, orThen}
@@ -91,9 +91,3 @@ chain-first (tested {b = b} {t = t} made holds rest) =
 
 pub first-chain : {g : Fault} {ts : List Test} → Chain g Nowhere ts → g ≡ firstFault ts
 first-chain chain = chain-first chain
-
--- alternatives, however they are grouped
-
-pub or-assoc : (a b c : Bool) → (a || b) || c ≡ a || (b || c)
-or-assoc true b c = refl
-or-assoc false b c = refl

@@ -1,8 +1,8 @@
 -- Sound files. What reading answers says that no test has a fault, so all of them hold; the record `SoundFile` says this once in the
 -- file's own numbers. The tests of the head and the contents are read off one by one, and back. Assumes nothing.
 use mathlib.Core.Path.{_≡_, refl}
-use mathlib.Core.Bool.{Bool, true, false, _&&_, _||_}
-use mathlib.Core.List.{List, [], _∷_, _++_}
+use mathlib.Core.Bool.{true}
+use mathlib.Core.List.{List, [], _++_}
 use Prim.Native.Nat.{ℕ, _≤_}
 use native.Mathlib.Omega.{arith}
 use lib.Dec.{leb}
@@ -10,12 +10,12 @@ use lib.ListN.{length}
 use borrow.Author.Tests.{leb-true, eqb-true, le-leb, eq-eqb}
 use Rattle.template.specs.Layout.{byteAt, halfAt, names, nonterminals, states, ruleCount, schemaCount, endingCount}
 use Rattle.template.specs.Layout.{schemaStart, endingStart, bodiesEnd}
-use Rattle.template.specs.Order.{Test, unless, firstFault, between}
+use Rattle.template.specs.Order.{firstFault, between}
 use Rattle.template.specs.Order.{headTests, contentsTests, body, bodies, tests, IsSound, shapeOf, verdict, reading}
 use Rattle.template.specs.declared.Fault.{Fault}
 use Rattle.template.specs.declared.Fault.the-variants.{Nowhere, At}
 use Rattle.template.specs.declared.Body.the-variants.{Templates, Schema, Endings}
-use Rattle.template.specs.declared.Reading.the-variants.{Sound, Bad}
+use Rattle.template.specs.declared.Reading.the-variants.{Sound}
 use Rattle.template.specs.declared.Shape.{Shape}
 use Rattle.template.proofs.OrderLaws.{nowhere-holds, first-append-nowhere, nowhere-append}
 use Rattle.hedge.proofs.TestLaws.{and-out}
@@ -26,17 +26,9 @@ verdict-sound : (x : Fault) (z s : Shape) → verdict x z ≡ Sound s → (x ≡
 verdict-sound Nowhere z s e = (refl, cc)
 verdict-sound (At p) z s e = (cc, cc)
 
-verdict-bad : (x : Fault) (z : Shape) (p : ℕ) → verdict x z ≡ Bad p → x ≡ At p
-verdict-bad Nowhere z p e = cc
-verdict-bad (At q) z p e = cc
-
 pub reading-sound : (f : List ℕ) (s : Shape) → reading f ≡ Sound s → IsSound f × (s ≡ shapeOf f)
 unfolding reading
 reading-sound f s e = verdict-sound (firstFault (tests f)) (shapeOf f) s e
-
-pub reading-bad : (f : List ℕ) (p : ℕ) → reading f ≡ Bad p → firstFault (tests f) ≡ At p
-unfolding reading
-reading-bad f p e = verdict-bad (firstFault (tests f)) (shapeOf f) p e
 
 pub sound-reading : (f : List ℕ) → IsSound f → reading f ≡ Sound (shapeOf f)
 unfolding reading

@@ -10,7 +10,7 @@ use lib.ListN.{length}
 use Rattle.words.specs.Tags.{Tag, start, end}
 use Rattle.words.specs.Binoid.{Binoid, Laws}
 use Rattle.words.specs.Reduced.{Stack, bottom, push, EndsFirst}
-use Rattle.words.specs.Reader.{Outcome, reduced, differ, nothing-read, then-tag, then-value, join}
+use Rattle.words.specs.Reader.{Outcome, reduced, nothing-read, then-tag, join}
 use Rattle.words.proofs.ReducedLaws.{GoodStack}
 use Rattle.words.proofs.StepLaws.{GoodOutcome}
 use Rattle.words.proofs.JoinLaws.{join-unit, join-tag, join-self}

@@ -18,6 +18,7 @@ use Rattle.stack.proofs.HeldLaws.{stack-none, stack-put-start, stack-put-end, u
 use Rattle.stack.proofs.TurnLaws.{holds-value}
 use Rattle.rows.specs.Packed.{nonterminalIn, endsIn, startsIn, namesIn, RowOf}
 use Rattle.rows.proofs.RowLaws.{row-nonterminal, row-holds, row-form, row-last}
+use Rattle.rows.proofs.TableLaws.{row-part}
 use Rattle.walk.specs.Slots.{rowAt, slotOf, leftSlot, rightSlot}
 use Rattle.walk.specs.Turns.{slotFits, leftsOf, rightFrom, SomePairRow, Choosable, TagForm, FormOf, Loads}
 use Rattle.walk.specs.declared.Slot.{Slot}
@@ -99,12 +100,9 @@ module _ (s : Slot) (k : ℕ) (t : List ℕ) where
 
 -- ---- a row, as a part of the table
 
-part : (a : ℕ) (t : List ℕ) → take (a + 20 - a) (drop a t) ≡ take 20 (drop a t)
-part a t = let e : a + 20 - a ≡ 20 = omega arith in rw e
-
 pub row-test : (t : List ℕ) (k x v : ℕ) → v ≡ nonterminalIn (take (k * 20 + 20 - k * 20) (drop (k * 20) t))
     → eqb v x ≡ eqb (nonterminalIn (rowAt t k)) x
-row-test t k x v e = rw (← (part (k * 20) t), e)
+row-test t k x v e = rw (← (row-part (k * 20) t), e)
 
 -- ---- forms in the arrays
 
@@ -174,7 +172,7 @@ module _ (t : List ℕ) (k x : ℕ) (fits : Bool) (told : fits ≡ eqb (nontermi
       let row = rowAt t k in
       let is : p .of ≡ x =
       sym (row-nonterminal row (p .of) (p .form) (p .last) r) ∙ eqb-true (nonterminalIn row) x (sym told ∙ f) in
-      rw (e-is, s-is, names-is, values-is, part (k * 20) t) (
+      rw (e-is, s-is, names-is, values-is, row-part (k * 20) t) (
         row-holds row (p .of) (p .form) (p .last) r,
         rw (row-form row (p .of) (p .form) (p .last) r, row-last row (p .of) (p .form) (p .last) r, ← is) r,
       )

@@ -11,13 +11,13 @@ use Rattle.words.specs.Binoid.{Binoid, Laws}
 use Rattle.words.specs.Reduced.{Stack, bottom, push, EndsFirst, Reduced, whole, after-end, after-start}
 use Rattle.words.specs.Reader.{Outcome, reduced, differ, nothing-read, then-tag, run, then-value, join}
 use Rattle.words.proofs.ReducedLaws.{GoodStack, ends-first-below, reduced-good}
-use Rattle.words.proofs.StepLaws.{GoodOutcome, Ordered, step-push, tag-reduced, value-reduced, tag-differ, value-differ}
+use Rattle.words.proofs.StepLaws.{GoodOutcome, Ordered, step-push, tag-reduced, value-reduced}
 use Rattle.words.proofs.StepLaws.{ordered-tag, ordered-value, good-tag, good-value, value-unit}
 use Rattle.words.proofs.ReadLaws.{Told, run-then-value, run-tag-value, told-run}
 use Rattle.words.proofs.MismatchLaws.{told-reduced, told-differ}
 
 module _ (B : Binoid) where
-  -- none, next, and after a mismatch
+  -- none, and next
 
   pub join-bottom : (o : Outcome (B .H)) (c : B .H) → join B o bottom c ≡ then-value B o c
   unfolding join
@@ -27,10 +27,6 @@ module _ (B : Binoid) where
       → join B o (push s h t) c ≡ then-value B (then-tag B (join B o s h) t) c
   unfolding join
   join-push o s h t c = refl
-
-  pub join-after-differ : (a b : ℕ) (s : Stack (B .H)) (c : B .H) → join B (differ a b) s c ≡ differ a b
-  join-after-differ a b bottom c = rw (join-bottom, value-differ)
-  join-after-differ a b (push s h t) c = rw (join-push, join-after-differ a b s h, tag-differ, value-differ)
 
   -- what joining keeps
 

@@ -3,7 +3,7 @@
 -- both. Assumes nothing.
 use mathlib.Core.Path.{_≡_, refl, sym, ap₂, _∙_, subst}
 use mathlib.Core.List.{List, _∷_, _++_}
-use mathlib.Core.Logic.{_↔_, _⊎_, inl, inr, ⊎-elim}
+use mathlib.Core.Logic.{_↔_, _⊎_, inl, inr}
 use Prim.Native.Nat.{ℕ}
 use native.Mathlib.Omega.{arith}
 use Rattle.words.specs.Tags.{Tag, start, end}
@@ -60,9 +60,6 @@ module _ (B : Binoid) (L : Laws B) where
       from : (o : Outcome (B .H)) → Told B w o → ((s : Stack (B .H)) × (c : B .H) × Reduced B w s c) ⊎ Mismatched w
       from (reduced s c) r = inl (s, c, r)
       from (differ a b) m = inr m
-
-  pub mismatched-decided : (w : List Tag) → Dec (Mismatched w)
-  mismatched-decided w = ⊎-elim (λ r. no (never-both (r .2))) yes (one-of w)
 
   -- an outcome that tells of a word tells all
 

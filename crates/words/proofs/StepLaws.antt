@@ -1,5 +1,6 @@
 -- One tag or one balanced word more (specs/Reader.antt): the equations of a step, one for each case that a reader meets, and what a
--- step keeps: good values, and end tags before start tags. Each is by cases on the form. Assumes nothing.
+-- step keeps: good values, and end tags before start tags; the unit as a value changes nothing. Each is by cases on the form.
+-- Assumes nothing.
 use mathlib.Core.Path.{_≡_, refl}
 use Prim.Native.Nat.{ℕ}
 use native.Mathlib.Decide.{ℕ-discrete}
@@ -65,10 +66,6 @@ module _ (B : Binoid) where
   pub tag-reduced : (s : Stack (B .H)) (c : B .H) (t : Tag) → then-tag B (reduced s c) t ≡ step B s c t
   unfolding then-tag
   tag-reduced s c t = refl
-
-  pub tag-differ : (a b : ℕ) (t : Tag) → then-tag B (differ a b) t ≡ differ a b
-  unfolding then-tag
-  tag-differ a b t = refl
 
   pub value-reduced : (s : Stack (B .H)) (c h : B .H) → then-value B (reduced s c) h ≡ reduced s (B .compose c h)
   unfolding then-value
