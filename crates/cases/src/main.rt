@@ -15,12 +15,6 @@ struct Cursor {
     to: usize,
 }
 
-fn wide(x: u8) -> usize
-    ensures { λ r. ⌜ (r ≡ x) × (r < 256) ⌝ }
-{
-    x as usize
-}
-
 fn long(x: u8) -> u64
     ensures { λ r. ⌜ (r ≡ x) × (r < 256) ⌝ }
 {
@@ -114,7 +108,7 @@ fn join_fragments(file: &[u8], bytes: &[u8]) {
     if bytes.len() < 1 {
         return;
     }
-    let cut = 1 + wide(bytes[0]);
+    let cut = 1 + words::wide(bytes[0]);
     if bytes.len() < cut {
         return;
     }
@@ -153,8 +147,8 @@ fn summary_at(bytes: &[u8], at: usize) -> summary::Summary
     }
     relations[16] = relation_at(bytes, at + 146);
     summary::Summary {
-        ends: wide(bytes[at]),
-        starts: wide(bytes[at + 1]),
+        ends: words::wide(bytes[at]),
+        starts: words::wide(bytes[at + 1]),
         names: names,
         relations: relations,
     }
@@ -294,8 +288,8 @@ fn check_file(file: &[u8], bytes: &[u8]) {
     if bytes.len() < 5 {
         return;
     }
-    let budget = wide(bytes[0]) + 256 * wide(bytes[1]);
-    let len = wide(bytes[2]) + 256 * wide(bytes[3]);
+    let budget = words::wide(bytes[0]) + 256 * words::wide(bytes[1]);
+    let len = words::wide(bytes[2]) + 256 * words::wide(bytes[3]);
     let fill = long(bytes[4]);
     let mut table = blank();
     check_table(file, &mut table, len, budget, fill);
@@ -333,7 +327,7 @@ fn one(input: &[u8], c: Cursor) -> Cursor {
         return end;
     }
     let letter = input[at];
-    let len = wide(input[at + 1]) + 256 * wide(input[at + 2]);
+    let len = words::wide(input[at + 1]) + 256 * words::wide(input[at + 2]);
     let from = at + 3;
     if n - from < len {
         return end;

@@ -9,7 +9,7 @@ use lib.ListN.{length}
 use Rattle.template.specs.Order.{IsSound}
 use Rattle.summary.proofs.ShapeLaws.{sound-not-bad}
 use Rattle.trees.specs.Verdict.{Decision, met, passed, used, Decides}
-use Rattle.trees.proofs.BudgetLaws.{decides-unique}
+use Rattle.trees.proofs.BudgetLaws.{met-not-passed, met-not-used, passed-not-used, decides-unique}
 use Rattle.rounds.specs.Checks.{EventOf, NewOf, HasPage, Rows, shown, zeroed, Lent, Decided, CheckSays}
 use Rattle.rounds.specs.Answers.{answer, number, images}
 use Rattle.rounds.specs.declared.CheckReply.{CheckReply}
@@ -18,17 +18,6 @@ use Rattle.rounds.proofs.BudgetLaws.{check-larger}
 use Rattle.rounds.proofs.UniqueLaws.{check-unique}
 use Rattle.demands.specs.Third.{Exact}
 use Rattle.demands.proofs.Sides.{neither}
-
--- ---- decisions that differ
-
-met-not-passed : (q k r : ℕ) → met q k ≡ passed r → ⊥
-met-not-passed q k r e = let z : _≡_ {A = ℕ} 0 1 = cc e in omega (arith, z)
-
-met-not-used : (q k : ℕ) → met q k ≡ used → ⊥
-met-not-used q k e = let z : _≡_ {A = ℕ} 0 1 = cc e in omega (arith, z)
-
-passed-not-used : (r : ℕ) → passed r ≡ used → ⊥
-passed-not-used r e = let z : _≡_ {A = ℕ} 0 1 = cc e in omega (arith, z)
 
 -- ---- the reply of each decision
 

@@ -19,7 +19,7 @@ use Rattle.reader.specs.Reads.{Found, whole, refused, no-tag, mismatch, too-man
 use Rattle.reader.specs.Reads.{Form, AllReadable, Reads, reads-all, reads-to, by-no-tag}
 use Rattle.reader.proofs.FormLaws.{form-empty}
 use Rattle.reader.proofs.ReadsLaws.{all-readable-none}
-use Rattle.reader.proofs.NextLaws.{After, after-step}
+use Rattle.reader.proofs.NextLaws.{AfterByte, after-step}
 
 -- ---- the class of a byte
 
@@ -75,7 +75,7 @@ module _ (A : ℕ) (B : Binoid) (n : ℕ) where
     module _ (u : List ℕ) (b : ℕ) (v : List ℕ) (more : Stack (B .H) → B .H → Found (B .H))
         (onward : (s : Stack (B .H)) (c : B .H) → AllReadable A B n (u ++ (b ∷ [])) → Form A B n (u ++ (b ∷ [])) s c
         → Reads A B n (u ++ (b ∷ v)) (more s c)) (r : AllReadable A B n u) where
-      on-reads : (l : Limited (B .H)) → After A B n (u ++ (b ∷ [])) l → Reads A B n (u ++ (b ∷ v)) (findOn (length u) more l)
+      on-reads : (l : Limited (B .H)) → AfterByte A B n (u ++ (b ∷ [])) l → Reads A B n (u ++ (b ∷ v)) (findOn (length u) more l)
       unfolding findOn
       on-reads (fits s c) (h, g) = onward s c h g
       on-reads (differs x y) g = reads-to u b v r g

@@ -15,10 +15,10 @@ use Rattle.summary.specs.Fragments.{schemaOf, binoidOf}
 use Rattle.summary.proofs.ShapeLaws.{lawsOf}
 use Rattle.trees.specs.Events.{Pair}
 use Rattle.trees.specs.Verdict.{Decides, passed}
-use Rattle.trees.proofs.RoundLaws.{balanced-not-mismatched}
+use Rattle.words.proofs.MismatchLaws.{balanced-not-mismatched}
 use Rattle.trees.proofs.VerdictLaws.{pass-valid}
-use Rattle.rounds.specs.Checks.{RuleOf, ImageOf, EventOf, NewOf, Rows}
-use Rattle.rounds.proofs.ListedLaws.{Packs, packs-pair}
+use Rattle.rounds.specs.Checks.{PairRow, RuleOf, ImageOf, EventOf, NewOf, Rows}
+use Rattle.rounds.proofs.ListedLaws.{row-one-pair}
 use Rattle.rounds.proofs.FormLaws.{PageForm, form-decided, valid-form}
 use Rattle.demands.specs.Third.{Produces}
 
@@ -51,20 +51,20 @@ module _ (f : List ℕ) (sound : IsSound f) where
 
   module _ (budget r : ℕ) (decides : Decides (EventOf f) (NewOf f) budget (passed r)) (rows : List (List ℕ)) (made : Rows f r rows) where
     -- the row's image was there the round before
-    abbrev Before : List ℕ → Type 0
-    Before row = (p : Pair ℕ) × ImageOf f (pred r) p × Packs row p
+    abbrev ImagedBefore : List ℕ → Type 0
+    ImagedBefore row = (p : Pair ℕ) × ImageOf f (pred r) p × PairRow row p
 
-    each-before : (row : List ℕ) → List·Memᴰ row rows → (Before row → ⊥) → ⊥
+    each-before : (row : List ℕ) → List·Memᴰ row rows → (ImagedBefore row → ⊥) → ⊥
     each-before row m fails =
         let (_, _, _, _, none) = decides in
         let (p, i, c) = made .each-image row m in
         none (record { image = p; here = i; not-before = λ j. fails (p, j, c) })
 
-    all-before : ((row : List ℕ) → List·Memᴰ row rows → Before row) → (p : Pair ℕ) → ImageOf f r p → ImageOf f (pred r) p
+    all-before : ((row : List ℕ) → List·Memᴰ row rows → ImagedBefore row) → (p : Pair ℕ) → ImageOf f r p → ImageOf f (pred r) p
     all-before before p i =
         let (row, m, c) = made .every-image p i in
         let (q, j, d) = before row m in
-        subst (ImageOf f (pred r)) (packs-pair row q p d c) j
+        subst (ImageOf f (pred r)) (row-one-pair row q p d c) j
 
     pub passed-valid : (w : List Tag) → Produces f w → Valid (schemaOf f) w
     passed-valid w (n, tree) = from (valid-decided w)
@@ -73,6 +73,6 @@ module _ (f : List ℕ) (sound : IsSound f) where
         from (yes v) = v
         from (no v) =
             let (low, _, _, quiet, _) = decides in
-            absurd (all-unfailing Before rows each-before (λ before.
+            absurd (all-unfailing ImagedBefore rows each-before (λ before.
             v (pass-valid (RuleOf f) (binoidOf f) (Valid (schemaOf f)) 16 256 (lawsOf f sound) (PageForm f) (valid-form f sound)
             (form-decided f) r low quiet (all-before before) tree .0)))

@@ -10,33 +10,25 @@ use lib.ListN.{length}
 use Rattle.trees.specs.Events.{Pair, Distinct, distinct-none, distinct-more}
 use Rattle.trees.specs.Verdict.{Quiet}
 use Rattle.trees.proofs.TableLaws.{rows-crowded}
-use Rattle.rows.specs.Tables.{order, Above, Ascending}
-use Rattle.rows.specs.declared.Order.the-variants.{Less}
-use Rattle.rows.proofs.OrderLaws.{less-irrefl, less-trans}
+use Rattle.rows.specs.Tables.{Above, Ascending}
+use Rattle.rows.proofs.OrderLaws.{less-irrefl}
+use Rattle.rows.proofs.SortLaws.{first-less}
 use Rattle.rows.proofs.PackedLaws.{packed-length}
 use Rattle.rows.proofs.TableLaws.{Wide}
-use Rattle.rounds.specs.Checks.{ImageOf, EventOf, NewOf, Rows}
-use Rattle.rounds.proofs.ListedLaws.{Packs, packs-row}
+use Rattle.rounds.specs.Checks.{PairRow, ImageOf, EventOf, NewOf, Rows}
+use Rattle.rounds.proofs.ListedLaws.{pair-one-row}
 
 -- ---- ascending rows differ
 
--- a row below the first of ascending rows is none of them
-below-absent : (x y : List ℕ) (ys : List (List ℕ)) → order x y ≡ Less → Ascending (y ∷ ys) → List·Memᴰ x (y ∷ ys) → ⊥
-below-absent x y [] l a m =
-    ⊎-elim (λ (e : x ≡ y). less-irrefl y (rw e at l)) (λ k. List·Memᴰ·not-nil k) (List·Memᴰ·cases-cons m)
-below-absent x y (z ∷ ys) l (a, s) m =
-    ⊎-elim (λ (e : x ≡ y). less-irrefl y (rw e at l)) (λ k. below-absent x z ys (less-trans x y z l a) s k) (List·Memᴰ·cases-cons m)
-
 first-absent : (x : List ℕ) (xs : List (List ℕ)) → Above x xs → Ascending xs → List·Memᴰ x xs → ⊥
-first-absent x [] a s m = List·Memᴰ·not-nil m
-first-absent x (y ∷ ys) a s m = below-absent x y ys a s m
+first-absent x xs a s m = less-irrefl x (first-less x xs a s x m)
 
 -- ---- the images that rows pack
 
 module _ (I : Pair ℕ → Type 0) where
   -- each row packs an image
   abbrev Imaged : List (List ℕ) → Type 0
-  Imaged rows = (row : List ℕ) → List·Memᴰ row rows → (p : Pair ℕ) × I p × Packs row p
+  Imaged rows = (row : List ℕ) → List·Memᴰ row rows → (p : Pair ℕ) × I p × PairRow row p
 
   -- as many images as rows, each once
   record Unpacked (rows : List (List ℕ)) : Type 0 where
@@ -44,7 +36,7 @@ module _ (I : Pair ℕ → Type 0) where
     count : length pairs ≡ length rows
     distinct : Distinct pairs
     are-images : (p : Pair ℕ) → List·Memᴰ p pairs → I p
-    have-rows : (p : Pair ℕ) → List·Memᴰ p pairs → (row : List ℕ) × List·Memᴰ row rows × Packs row p
+    have-rows : (p : Pair ℕ) → List·Memᴰ p pairs → (row : List ℕ) × List·Memᴰ row rows × PairRow row p
 
   unpacked : (rows : List (List ℕ)) → Ascending rows → Imaged rows → Unpacked rows
   unpacked [] s imaged = record {
@@ -63,7 +55,7 @@ module _ (I : Pair ℕ → Type 0) where
         distinct =
             distinct-more (λ m.
             let (row, n, d) = rest .have-rows q m in
-            first-absent x xs a s (Memᴰ·cast (packs-row x row q c d) n)) (rest .distinct);
+            first-absent x xs a s (Memᴰ·cast (pair-one-row x row q c d) n)) (rest .distinct);
         are-images = λ p m. ⊎-elim (λ (e : p ≡ q). rw e i) (rest .are-images p) (List·Memᴰ·cases-cons m);
         have-rows = λ p m.
             ⊎-elim (λ (e : p ≡ q). (x, List·Memᴰ·head refl, rw e c))

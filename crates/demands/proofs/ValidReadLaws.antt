@@ -19,7 +19,7 @@ use Rattle.reader.proofs.FormLaws.{Because, refused-because, unspelled-word, fo
 use Rattle.reader.proofs.ReadsLaws.{reads-finding}
 use Rattle.summary.specs.Fragments.{schemaOf, binoidOf, ReadUnder}
 use Rattle.summary.proofs.ShapeLaws.{lawsOf, sound-not-bad}
-use Rattle.trees.proofs.RoundLaws.{balanced-not-mismatched}
+use Rattle.words.proofs.MismatchLaws.{balanced-not-mismatched}
 use Rattle.page.specs.Pages.{PageSays}
 use Rattle.page.specs.Pages.{answer as pageAnswer}
 use Rattle.page.specs.declared.PageReply.{PageReply}

@@ -4,7 +4,7 @@
 use mathlib.Core.Path.{_≡_, refl, sym, ap, ap₂, _∙_}
 use mathlib.Core.Bool.{Bool, true, false, _||_}
 use Prim.Native.Nat.{ℕ, zero, suc, _+_, _*_, _/_, _%_, _^_, _≤_, _<_}
-use native.Mathlib.Nat.{pow-suc, zero-add, suc-add, one-mul, mul-div-cancel, div-eq-of-lt, lt-of-lt-of-le, mul-assoc, mul-comm}
+use native.Mathlib.Nat.{pow-suc, one-mul, mul-div-cancel, div-eq-of-lt, lt-of-lt-of-le, mul-assoc, mul-comm}
 use native.Mathlib.Nat.{div-div-eq-div-mul, not-suc-le-zero, le-of-suc-le-suc}
 use native.Mathlib.Omega.{arith}
 use lib.Dec.{eqb, eqb·suc-zero, eqb·zero-suc, eqb·suc-suc}
@@ -86,19 +86,12 @@ number-ext (suc n) a b ha hb e =
     in
     omega arith
 
--- one bit more on top, and m bits more
+-- one bit more on top
 pub number-more : (n : ℕ) (f : ℕ → Bool) → number (suc n) f ≡ number n f + one-if (f n) * 2 ^ n
 unfolding number
 number-more zero f = omega arith
 number-more (suc n) f =
     rw (number-more n (λ k. f (suc k)), pow-suc, ← mul-assoc (one-if (f (suc n))) (2 ^ n) 2) (omega arith)
-
-pub number-append : (n m : ℕ) (f : ℕ → Bool) → number (n + m) f ≡ number n f + number m (λ k. f (n + k)) * 2 ^ n
-unfolding number
-number-append zero m f = simp zero-add (omega arith)
-number-append (suc n) m f =
-    simp (suc-add, pow-suc)
-    (rw (number-append n m (λ k. f (suc k)), ← mul-assoc (number m (λ k. f (suc (n + k)))) (2 ^ n) 2) (omega arith))
 
 -- ---- bits of a union
 

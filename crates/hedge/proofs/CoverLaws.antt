@@ -2,14 +2,14 @@
 -- go pair by pair. Assumes nothing.
 use mathlib.Core.Path.{_≡_, refl, sym, ap, _∙_}
 use mathlib.Core.Logic.{_↔_}
-use mathlib.Core.Bool.{Bool, true, false, _||_, or-true}
-use Prim.Native.Nat.{ℕ, _+_, _*_, _^_, _≤_, _<_}
+use mathlib.Core.Bool.{Bool, true, false, _||_}
+use Prim.Native.Nat.{ℕ, _+_, _*_, _^_, _<_}
 use lib.Bits.{bitOr, or-lt}
 use lib.Dec.{ltb}
 use borrow.Author.Tests.{eqb-true, eq-eqb, ltb-true, lt-ltb}
-use Rattle.hedge.specs.Relation.{bit, has, Within}
-use Rattle.hedge.specs.Operations.{below, full, covers, relation}
-use Rattle.hedge.proofs.TestLaws.{ext-true, and-out, or-out}
+use Rattle.hedge.specs.Relation.{has, Within}
+use Rattle.hedge.specs.Operations.{below, full, covers}
+use Rattle.hedge.proofs.TestLaws.{and-out}
 use Rattle.hedge.proofs.BitLaws.{bit-or}
 use Rattle.hedge.proofs.RelationLaws.{has-relation, relation-lt, relation-ext}
 

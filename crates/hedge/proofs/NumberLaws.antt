@@ -5,14 +5,13 @@ use mathlib.Core.Path.{_≡_}
 use mathlib.Core.Logic.{_↔_}
 use mathlib.Core.Bool.{true}
 use mathlib.Core.List.{List}
-use Prim.Native.Nat.{ℕ, _*_, _/_, _^_, _≤_, _<_}
+use Prim.Native.Nat.{ℕ, _/_, _≤_, _<_}
 use native.Mathlib.Nat.{lt-of-lt-of-le}
 use native.Mathlib.Omega.{arith}
 use lib.ListN.{length}
 use Rattle.words.specs.Tags.{Tag}
-use Rattle.words.specs.Balance.{Balanced}
 use Rattle.words.specs.Binoid.{Laws, Value}
-use Rattle.words.proofs.ValueLaws.{value-balanced, balanced-value, value-good}
+use Rattle.words.proofs.ValueLaws.{value-balanced, value-good}
 use Rattle.hedge.specs.Schema.{Schema, Derives, Valid, schema, RulesBelow, EndsBelow}
 use Rattle.hedge.specs.Relation.{has, RelationOf, Within}
 use Rattle.hedge.specs.Operations.{same, linked, wrapped, unit, compose, wrap, relations, accepts}
@@ -91,8 +90,8 @@ module _ (K q : ℕ) (fits : q ≤ K) where
   module _ (rules ends : List ℕ) (rules-below : RulesBelow q rules) (ends-below : EndsBelow q ends) where
     -- ---- an element
 
-    rule-below : {x a y z : ℕ} → schema q rules ends .Rule x a y z → (x < q) × (y < q) × (z < q)
-    rule-below (i, hi, ex, ea, ey, ez) =
+    rule-states-below : {x a y z : ℕ} → schema q rules ends .Rule x a y z → (x < q) × (y < q) × (z < q)
+    rule-states-below (i, hi, ex, ea, ey, ez) =
         let (hx, hy, hz) = rules-below i hi in
         (rw (← ex) hx, rw (← ey) hy, rw (← ez) hz)
 
@@ -106,7 +105,7 @@ module _ (K q : ℕ) (fits : q ≤ K) where
           small = relation-lt K (wrapped rules ends a (has K r) (length rules / 4));
           states = λ x z hx hz u.
               let (y, t, rule, p, e) = wrap-members K q rules ends a r x z hx hz .0 u in
-              (rule-below rule .0, rule-below rule .2);
+              (rule-states-below rule .0, rule-states-below rule .2);
         }
 
     pub wrap-pairs : (a r x z : ℕ)
@@ -116,11 +115,11 @@ module _ (K q : ℕ) (fits : q ≤ K) where
       λ m.
           let (hx, hz, u) = m in
           let (y, t, rule, p, e) = wrap-members K q rules ends a r x z hx hz .0 u in
-          (y, t, rule, (in-width (rule-below rule .1), in-width (ending-below t e), p), e),
+          (y, t, rule, (in-width (rule-states-below rule .1), in-width (ending-below t e), p), e),
       λ m.
           let (y, t, rule, (hy, ht, p), e) = m in
-          let hx : x < K = in-width (rule-below rule .0) in
-          let hz : z < K = in-width (rule-below rule .2) in
+          let hx : x < K = in-width (rule-states-below rule .0) in
+          let hz : z < K = in-width (rule-states-below rule .2) in
           (hx, hz, wrap-members K q rules ends a r x z hx hz .1 (y, t, rule, p, e)),
     )
 
@@ -157,12 +156,6 @@ module _ (K q : ℕ) (fits : q ≤ K) where
             λ l. value-relation relations-relate p x z .1 l .2,
           );
         }
-
-    pub value-of-relation : {w : List Tag} {r : ℕ} → Balanced w → RelationOf K (schema q rules ends) w r
-        → Value (relations K q rules ends) w r
-    value-of-relation b p =
-        let (h, v) = balanced-value (relations K q rules ends) b in
-        rw (relation-unique K (relation-of-value v) p) at v
 
     -- ---- acceptance
 

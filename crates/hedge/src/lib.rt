@@ -1,7 +1,6 @@
 // Relations of at most eight states as numbers of 64 bits: the unit, composition, an element around a word, acceptance. Composition goes
 // bit by bit. What the numbers mean is shown in proofs/, over any number of states and any width of a row.
 ghost use mathlib.Core.Path.{_≡_};
-ghost use mathlib.Core.Bool.{_&&_};
 ghost use Prim.Native.Nat.{_+_, _*_, _/_, _^_, _<_, _≤_};
 ghost use lib.ListN.{length};
 ghost use Rattle.hedge.specs.Schema.{field, RulesBelow, EndsBelow};
@@ -70,19 +69,13 @@ pub fn compose(states: usize, left: u64, right: u64) -> u64
     r
 }
 
-fn wide(x: u8) -> usize
-    ensures { λ r. ⌜ r ≡ x ⌝ }
-{
-    x as usize
-}
-
 // Field j of rule i: X, a, Y, Z.
 fn field(rules: &[u8], i: usize, j: usize) -> usize
     requires { ⌜ i < length (now rules) / 4 ⌝ }
     requires { ⌜ j < 4 ⌝ }
     ensures { λ v. ⌜ v ≡ field (now (rules .entry)) i j ⌝ }
 {
-    wide(rules[i * 4 + j])
+    words::wide(rules[i * 4 + j])
 }
 
 // Does the relation lead from y to an ending state?
@@ -94,7 +87,7 @@ fn ended(ends: &[u8], r: u64, y: usize) -> bool
     let mut t = false;
     let mut j = 0usize;
     while j < ends.len() {
-        t = t | has(r, y, wide(ends[j]));
+        t = t | has(r, y, words::wide(ends[j]));
         j += 1;
     }
     t
@@ -116,7 +109,7 @@ fn fired(rules: &[u8], ends: &[u8], name: u8, inner: u64, i: usize) -> u64
     requires { ⌜ i < length (now rules) / 4 ⌝ }
     ensures { λ s. ⌜ s ≡ relation 8 (fires (now (rules .entry)) (now (ends .entry)) name (has 8 inner) i) ⌝ }
 {
-    if field(rules, i, 1) != wide(name) {
+    if field(rules, i, 1) != words::wide(name) {
         return 0;
     }
     let t = ended(ends, inner, field(rules, i, 2));

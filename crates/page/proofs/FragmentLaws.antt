@@ -23,35 +23,35 @@ use Rattle.page.proofs.PageLaws.{EndSays}
 use Rattle.page.proofs.UniqueLaws.{PageFound, PageCase, page-case}
 
 -- a page that is read to its end is summarised; a refusal is the same, with the same place
-abbrev pub fragmentOf : PageReply → FragmentAnswer
-fragmentOf page.Valid = fragment.Summarised
-fragmentOf (page.BadFile i) = fragment.BadFile i
-fragmentOf (page.NotATag i) = fragment.NotATag i
-fragmentOf (page.Mismatch i) = fragment.Mismatch i
-fragmentOf (page.TooDeep i) = fragment.TooDeep i
-fragmentOf page.Unmatched = fragment.Summarised
-fragmentOf page.NotDerived = fragment.Summarised
+abbrev pub fragmentAnswerOf : PageReply → FragmentAnswer
+fragmentAnswerOf page.Valid = fragment.Summarised
+fragmentAnswerOf (page.BadFile i) = fragment.BadFile i
+fragmentAnswerOf (page.NotATag i) = fragment.NotATag i
+fragmentAnswerOf (page.Mismatch i) = fragment.Mismatch i
+fragmentAnswerOf (page.TooDeep i) = fragment.TooDeep i
+fragmentAnswerOf page.Unmatched = fragment.Summarised
+fragmentAnswerOf page.NotDerived = fragment.Summarised
 
 module _ (f bytes : List ℕ) where
-  end-summarised : (w : List Tag) (p : PageReply) → EndSays f w p → fragmentOf p ≡ fragment.Summarised
-  end-summarised w p (inl (v, e)) = ap fragmentOf e
-  end-summarised w p (inr (inl (n, e))) = ap fragmentOf e
-  end-summarised w p (inr (inr (b, n, e))) = ap fragmentOf e
+  end-summarised : (w : List Tag) (p : PageReply) → EndSays f w p → fragmentAnswerOf p ≡ fragment.Summarised
+  end-summarised w p (inl (v, e)) = ap fragmentAnswerOf e
+  end-summarised w p (inr (inl (n, e))) = ap fragmentAnswerOf e
+  end-summarised w p (inr (inr (b, n, e))) = ap fragmentAnswerOf e
 
   found-fragment : (found : Found ℕ) (p : PageReply) (a : FragmentAnswer) (s : Summary) → PageFound f bytes found p
-      → AnswersFound found a s → a ≡ fragmentOf p
+      → AnswersFound found a s → a ≡ fragmentAnswerOf p
   found-fragment (whole t c) p a s (w, spelled, e) (d, k) = d ∙ sym (end-summarised w p e)
-  found-fragment (refused no-tag i) p a s e (d, k) = d ∙ sym (ap fragmentOf e)
-  found-fragment (refused mismatch i) p a s e (d, k) = d ∙ sym (ap fragmentOf e)
-  found-fragment (refused too-many i) p a s e (d, k) = d ∙ sym (ap fragmentOf e)
+  found-fragment (refused no-tag i) p a s e (d, k) = d ∙ sym (ap fragmentAnswerOf e)
+  found-fragment (refused mismatch i) p a s e (d, k) = d ∙ sym (ap fragmentAnswerOf e)
+  found-fragment (refused too-many i) p a s e (d, k) = d ∙ sym (ap fragmentAnswerOf e)
 
-  case-fragment : (p : PageReply) (a : FragmentAnswer) (s : Summary) → PageCase f bytes p → FragmentCase f bytes a s → a ≡ fragmentOf p
-  case-fragment p a s (inl (i, e, h)) (inl (j, d, k, z)) = k ∙ ap fragment.BadFile (cc (sym d ∙ e)) ∙ sym (ap fragmentOf h)
+  case-fragment : (p : PageReply) (a : FragmentAnswer) (s : Summary) → PageCase f bytes p → FragmentCase f bytes a s → a ≡ fragmentAnswerOf p
+  case-fragment p a s (inl (i, e, h)) (inl (j, d, k, z)) = k ∙ ap fragment.BadFile (cc (sym d ∙ e)) ∙ sym (ap fragmentAnswerOf h)
   case-fragment p a s (inl (i, e, h)) (inr (sound, x)) = absurd (sound-not-bad f i sound e)
   case-fragment p a s (inr (sound, x)) (inl (i, e, h, z)) = absurd (sound-not-bad f i sound e)
   case-fragment p a s (inr (sound, (x, r, h))) (inr (_, (y, t, k))) =
       found-fragment y p a s (subst (λ z. PageFound f bytes z p) (reads-unique (names f) (binoidOf f) 16 (lawsOf f sound) r t) h) k
 
-  pub page-fragment : (p : PageReply) (r : FragmentReply) → PageSays f bytes p → FragmentSays f bytes r → r .answer ≡ fragmentOf p
+  pub page-fragment : (p : PageReply) (r : FragmentReply) → PageSays f bytes p → FragmentSays f bytes r → r .answer ≡ fragmentAnswerOf p
   page-fragment p r h k =
       case-fragment p (r .answer) (r .summary) (page-case f bytes p h) (fragment-case f bytes (r .answer) (r .summary) k)

@@ -42,12 +42,12 @@ module _ (f bytes : List ℕ) where
   PageFound (refused mismatch i) p = p ≡ page.Mismatch i
   PageFound (refused too-many i) p = p ≡ page.TooDeep i
 
-  found-unique : (found : Found ℕ) (p q : PageReply) → PageFound found p → PageFound found q → p ≡ q
-  found-unique (whole t c) p q (w, spelled, e) (z, spelled′, d) =
+  page-found-unique : (found : Found ℕ) (p q : PageReply) → PageFound found p → PageFound found q → p ≡ q
+  page-found-unique (whole t c) p q (w, spelled, e) (z, spelled′, d) =
       end-unique f z p q (subst (λ w. EndSays f w p) (spelled-unique (names f) spelled spelled′) e) d
-  found-unique (refused no-tag i) p q e d = e ∙ sym d
-  found-unique (refused mismatch i) p q e d = e ∙ sym d
-  found-unique (refused too-many i) p q e d = e ∙ sym d
+  page-found-unique (refused no-tag i) p q e d = e ∙ sym d
+  page-found-unique (refused mismatch i) p q e d = e ∙ sym d
+  page-found-unique (refused too-many i) p q e d = e ∙ sym d
 
   abbrev pub PageCase : PageReply → Type 0
   PageCase p =
@@ -76,7 +76,7 @@ module _ (f bytes : List ℕ) where
   page-case-unique p q (inl (i, e, h)) (inr (sound, x)) = absurd (sound-not-bad f i sound e)
   page-case-unique p q (inr (sound, x)) (inl (i, e, h)) = absurd (sound-not-bad f i sound e)
   page-case-unique p q (inr (sound, (x, r, h))) (inr (_, (y, t, k))) =
-      found-unique y p q (subst (λ z. PageFound z p) (reads-unique (names f) (binoidOf f) 16 (lawsOf f sound) r t) h) k
+      page-found-unique y p q (subst (λ z. PageFound z p) (reads-unique (names f) (binoidOf f) 16 (lawsOf f sound) r t) h) k
 
   pub page-unique : (p q : PageReply) → PageSays f bytes p → PageSays f bytes q → p ≡ q
   page-unique p q h k = page-case-unique p q (page-case p h) (page-case q k)

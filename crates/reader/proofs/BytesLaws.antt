@@ -24,7 +24,7 @@ use Rattle.reader.specs.declared.Feed.the-variants as feed
 use Rattle.reader.specs.declared.Progress.the-variants as progress
 use Rattle.reader.proofs.FormLaws.{form-empty}
 use Rattle.reader.proofs.ReadsLaws.{all-readable-none}
-use Rattle.reader.proofs.NextLaws.{After, after-step}
+use Rattle.reader.proofs.NextLaws.{AfterByte, after-step}
 
 -- the bytes before place i are readable, and the arrays hold their form
 pub record SoFar (known states : ℕ) (schema endings bytes : List ℕ) (i e s : ℕ) (names values : List ℕ) : Type 0 where
@@ -35,8 +35,8 @@ pub record SoFar (known states : ℕ) (schema endings bytes : List ℕ) (i e s :
 -- a place in the bytes
 
 module _ (bytes : List ℕ) (i : ℕ) (l : i < length bytes) where
-  bytes-next : take (i + 1) bytes ≡ take i bytes ++ (getD bytes i 0 ∷ [])
-  bytes-next = rw (add-one, take-suc bytes i 0)
+  take-next : take (i + 1) bytes ≡ take i bytes ++ (getD bytes i 0 ∷ [])
+  take-next = rw (add-one, take-suc bytes i 0)
 
   -- a refusal of the byte at place i
   refused-at : (A : ℕ) (B : Binoid) (n : ℕ) {why : Reason} → AllReadable A B n (take i bytes)
@@ -81,7 +81,7 @@ module _ (known states : ℕ) (schema endings bytes : List ℕ) where
     B = relations 8 states schema endings
 
     after-byte : {u : Tag} → Spells known (getD bytes i 0) u → (o : Limited ℕ)
-        → after-tag states schema endings e s names values u ≡ o → After known B 16 (take i bytes ++ (getD bytes i 0 ∷ [])) o
+        → after-tag states schema endings e s names values u ≡ o → AfterByte known B 16 (take i bytes ++ (getD bytes i 0 ∷ [])) o
     unfolding after-tag
     after-byte p o q =
         after-step known B 16 (relations-laws 8 states (c .few) schema endings rules-below ends-below) (take i bytes) (getD bytes i 0)
@@ -91,7 +91,7 @@ module _ (known states : ℕ) (schema endings bytes : List ℕ) where
     so-far-next a b q =
         let (u, p, o, h) = rw q at g in
         let (r, m) = after-byte p (held a b names′ values′) o in
-        let d = sym (bytes-next bytes i l) in
+        let d = sym (take-next bytes i l) in
         record {
           holds = h;
           readable = subst (λ x. AllReadable known B 16 x) d r;

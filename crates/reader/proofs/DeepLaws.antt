@@ -15,7 +15,7 @@ use Rattle.words.proofs.JoinLaws.{join-bottom}
 use Rattle.reader.specs.Reads.{whole, refused, too-many, Refused, Reads, reads-all, reads-to}
 use Rattle.reader.proofs.FormLaws.{form-empty}
 use Rattle.reader.proofs.ReadsLaws.{all-readable-none}
-use Rattle.reader.proofs.NextLaws.{After, after-step}
+use Rattle.reader.proofs.NextLaws.{AfterByte, after-step}
 
 -- k start tags as bytes, and as a form
 
@@ -23,45 +23,45 @@ unfoldable pub opens : ℕ → ℕ → List ℕ
 opens a zero = []
 opens a (suc k) = opens a k ++ (a ∷ [])
 
-unfoldable pub opened : {H : Type 0} → H → ℕ → ℕ → Stack H
-opened h a zero = bottom
-opened h a (suc k) = push (opened h a k) h (start a)
+unfoldable pub openedForm : {H : Type 0} → H → ℕ → ℕ → Stack H
+openedForm h a zero = bottom
+openedForm h a (suc k) = push (openedForm h a k) h (start a)
 
 opens-length : (a k : ℕ) → length (opens a k) ≡ k
 unfolding opens
 opens-length a zero = refl
 opens-length a (suc k) = let e = opens-length a k in rw length-append (omega arith)
 
-pub opened-tags : {H : Type 0} (h : H) (a k : ℕ) → tags (opened h a k) ≡ k
-unfolding opened tags
+pub opened-tags : {H : Type 0} (h : H) (a k : ℕ) → tags (openedForm h a k) ≡ k
+unfolding openedForm tags
 opened-tags h a zero = refl
 opened-tags h a (suc k) = ap suc (opened-tags h a k)
 
 module _ (A : ℕ) (B : Binoid) (n : ℕ) (L : Laws B) (a : ℕ) (name : Name A a) where
   -- a start tag more
 
-  open-next : (k : ℕ) → After A B n (opens a k) (fits (opened (B .unit) a k) (B .unit)) → (l : Limited (B .H))
-      → limit B n (reduced (opened (B .unit) a (suc k)) (B .unit)) ≡ l → After A B n (opens a (suc k)) l
-  unfolding opens opened
+  open-next : (k : ℕ) → AfterByte A B n (opens a k) (fits (openedForm (B .unit) a k) (B .unit)) → (l : Limited (B .H))
+      → limit B n (reduced (openedForm (B .unit) a (suc k)) (B .unit)) ≡ l → AfterByte A B n (opens a (suc k)) l
+  unfolding opens openedForm
   open-next k (r, f) l e =
-      after-step A B n L (opens a k) a r f (start-byte name) l (ap (limit B n) (step-start B (opened (B .unit) a k) (B .unit) a) ∙ e)
+      after-step A B n L (opens a k) a r f (start-byte name) l (ap (limit B n) (step-start B (openedForm (B .unit) a k) (B .unit) a) ∙ e)
 
-  opens-readable : (k : ℕ) → k ≤ n → After A B n (opens a k) (fits (opened (B .unit) a k) (B .unit))
-  unfolding opens opened
+  opens-readable : (k : ℕ) → k ≤ n → AfterByte A B n (opens a k) (fits (openedForm (B .unit) a k) (B .unit))
+  unfolding opens openedForm
   opens-readable zero l = (all-readable-none A B n, form-empty A B n)
   opens-readable (suc k) l =
-      open-next k (opens-readable k (omega arith)) (fits (opened (B .unit) a (suc k)) (B .unit))
-      (limit-in B n (opened (B .unit) a (suc k)) (B .unit) (rw opened-tags l))
+      open-next k (opens-readable k (omega arith)) (fits (openedForm (B .unit) a (suc k)) (B .unit))
+      (limit-in B n (openedForm (B .unit) a (suc k)) (B .unit) (rw opened-tags l))
 
   opens-refused : Refused A B n (opens a n ++ (a ∷ [])) too-many
   unfolding opens
   opens-refused =
       open-next n (opens-readable n (omega arith)) too-deep
-      (limit-out B n (opened (B .unit) a (suc n)) (B .unit) (rw opened-tags (omega arith)))
+      (limit-out B n (openedForm (B .unit) a (suc n)) (B .unit) (rw opened-tags (omega arith)))
 
   -- n start tags, and one more start tag with anything behind it
 
-  pub reads-opens : Reads A B n (opens a n) (whole (opened (B .unit) a n) (B .unit))
+  pub reads-opens : Reads A B n (opens a n) (whole (openedForm (B .unit) a n) (B .unit))
   reads-opens = let (r, f) = opens-readable n (omega arith) in reads-all r f
 
   pub reads-too-many : (after : List ℕ) → Reads A B n (opens a n ++ (a ∷ after)) (refused too-many n)
@@ -75,7 +75,7 @@ module _ (A : ℕ) (B : Binoid) (n : ℕ) (L : Laws B) (a : ℕ) (name : Name A 
   element-value = B .compose (B .unit) (B .wrap a (B .unit))
 
   pub reads-element : 1 ≤ n → Reads A B n (a ∷ ((32 + a) ∷ [])) (whole bottom element-value)
-  unfolding opens opened tags
+  unfolding opens openedForm tags
   reads-element l =
       let (r, f) = opens-readable 1 l in
       let (h, g) = after-step A B n L (a ∷ []) (32 + a) r f (end-byte name) (fits bottom element-value)
@@ -83,6 +83,6 @@ module _ (A : ℕ) (B : Binoid) (n : ℕ) (L : Laws B) (a : ℕ) (name : Name A 
       reads-all h g
 
   -- the join has n tags, one go is refused
-  pub join-opens-element : join B (reduced (opened (B .unit) a n) (B .unit)) bottom element-value
-      ≡ reduced (opened (B .unit) a n) (B .compose (B .unit) element-value)
+  pub join-opens-element : join B (reduced (openedForm (B .unit) a n) (B .unit)) bottom element-value
+      ≡ reduced (openedForm (B .unit) a n) (B .compose (B .unit) element-value)
   join-opens-element = rw (join-bottom, value-reduced)

@@ -19,9 +19,6 @@ module _ (A : ℕ) (B : Binoid) (n : ℕ) where
   pub readable-whole : {bytes : List ℕ} → AllReadable A B n bytes → Readable A B n bytes
   readable-whole {bytes} r = r bytes [] (sym (append-nil bytes))
 
-  pub readable-beginning : (u v : List ℕ) → AllReadable A B n (u ++ v) → AllReadable A B n u
-  readable-beginning u v r x y e = r x (y ++ v) (ap (λ z. z ++ v) e ∙ append-assoc x y v)
-
   readable-none : Readable A B n []
   unfolding tags
   readable-none = record { tags-left = bottom; last-value = B .unit; form = form-empty A B n; few = omega arith }
@@ -48,10 +45,6 @@ module _ (A : ℕ) (B : Binoid) (n : ℕ) where
   reads-finding (reads-all r f) = (r, f)
   reads-finding (reads-to before b after r f) = (before, b, after, refl, refl, r, f)
 
-  pub finding-reads : (bytes : List ℕ) (p : Found (B .H)) → Finding bytes p → Reads A B n bytes p
-  finding-reads bytes (whole s c) (r, f) = reads-all r f
-  finding-reads bytes (refused why i) (before, b, after, e, k, r, f) = rw (e, k) (reads-to before b after r f)
-
   module _ (L : Laws B) where
     -- nothing refused stands in a readable run
     pub all-readable-unrefused : (bytes before : List ℕ) (b : ℕ) (after : List ℕ) {why : Reason} → AllReadable A B n bytes
@@ -59,17 +52,17 @@ module _ (A : ℕ) (B : Binoid) (n : ℕ) where
     all-readable-unrefused bytes before b after r e f =
         readable-unrefused A B n L (r (before ++ (b ∷ [])) after (e ∙ sym (append-assoc before (b ∷ []) after))) f
 
-    same-place : (why reason : Reason) (before : List ℕ) (b : ℕ) (after before′ : List ℕ) (b′ : ℕ) (after′ : List ℕ)
+    same-refusal : (why reason : Reason) (before : List ℕ) (b : ℕ) (after before′ : List ℕ) (b′ : ℕ) (after′ : List ℕ)
         → AllReadable A B n before → Refused A B n (before ++ (b ∷ [])) why
         → AllReadable A B n before′ → Refused A B n (before′ ++ (b′ ∷ [])) reason
         → Places before b after before′ b′ after′
         → _≡_ {A = Found (B .H)} (refused why (length before)) (refused reason (length before′))
-    same-place why reason before b after before′ b′ after′ r f r′ f′ (inl (e, k, l)) =
+    same-refusal why reason before b after before′ b′ after′ r f r′ f′ (inl (e, k, l)) =
         let g : Refused A B n (before ++ (b ∷ [])) reason = rw (e, k) f′ in
         ap₂ refused (refused-unique A B n L f g) (ap length e)
-    same-place why reason before b after before′ b′ after′ r f r′ f′ (inr (inl (z, e))) =
+    same-refusal why reason before b after before′ b′ after′ r f r′ f′ (inr (inl (z, e))) =
         absurd (all-readable-unrefused before′ before b z r′ e f)
-    same-place why reason before b after before′ b′ after′ r f r′ f′ (inr (inr (z, e))) =
+    same-refusal why reason before b after before′ b′ after′ r f r′ f′ (inr (inr (z, e))) =
         absurd (all-readable-unrefused before before′ b′ z r e f′)
 
     finding-unique : (bytes : List ℕ) (p q : Found (B .H)) → Finding bytes p → Finding bytes q → p ≡ q
@@ -79,7 +72,7 @@ module _ (A : ℕ) (B : Binoid) (n : ℕ) where
     finding-unique bytes (refused why i) (whole s c) (before, b, after, e, k, h, g) (r, f) =
         absurd (all-readable-unrefused bytes before b after r e g)
     finding-unique bytes (refused why i) (refused reason j) (before, b, after, e, k, h, g) (before′, b′, after′, e′, k′, h′, g′) =
-        rw (k, k′) (same-place why reason before b after before′ b′ after′ h g h′ g′
+        rw (k, k′) (same-refusal why reason before b after before′ b′ after′ h g h′ g′
         (two-splits before b after before′ b′ after′ (sym e ∙ e′)))
 
     pub reads-unique : {bytes : List ℕ} {p q : Found (B .H)} → Reads A B n bytes p → Reads A B n bytes q → p ≡ q

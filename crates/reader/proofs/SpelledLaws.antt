@@ -2,29 +2,15 @@
 -- bytes. Assumes nothing.
 use mathlib.Core.Path.{_≡_, refl, ap, ap₂}
 use mathlib.Core.List.{List, [], _∷_, _++_}
-use mathlib.Core.Logic.{_⊎_, inl, inr}
-use Prim.Native.Nat.{ℕ, suc, _-_, _<_}
-use native.Mathlib.Decide.{decLt}
-use native.Mathlib.Omega.{arith}
-use lib.ListN.{length}
-use Rattle.words.specs.Tags.{Tag, start, end, Spells}
-use Rattle.words.proofs.ClassLaws.{spells-unique, start-spelled, end-spelled, low-unspelled, high-unspelled, past-unspelled}
+use Prim.Native.Nat.{ℕ}
+use Rattle.words.specs.Tags.{Tag, Spells}
+use Rattle.words.proofs.ClassLaws.{spells-unique}
 use Rattle.reader.specs.Reads.{Spelled, spelled-none, spelled-more}
 
 -- a byte spells a tag or none
 
 abbrev pub Unspelled : ℕ → ℕ → Type 0
 Unspelled A b = (t : Tag) → Spells A b t → ⊥
-
-pub spells-decided : (A b : ℕ) → ((t : Tag) × Spells A b t) ⊎ Unspelled A b
-spells-decided A b = from (decLt b 32) (decLt b 64) (decLt b A) (decLt (b - 32) A)
-  where
-    from : Dec (b < 32) → Dec (b < 64) → Dec (b < A) → Dec (b - 32 < A) → ((t : Tag) × Spells A b t) ⊎ Unspelled A b
-    from (yes l) m (yes k) g = inl (start b, start-spelled l k)
-    from (yes l) m (no k) g = inr (low-unspelled l (omega arith))
-    from (no l) (no m) k g = inr (past-unspelled (omega arith))
-    from (no l) (yes m) k (yes g) = inl (end (b - 32), end-spelled (omega arith) m g)
-    from (no l) (yes m) k (no g) = inr (high-unspelled (omega arith) (omega arith))
 
 module _ (A : ℕ) where
   -- in a row
@@ -57,7 +43,3 @@ module _ (A : ℕ) where
   pub spelled-unique : {bytes : List ℕ} {w z : List Tag} → Spelled A bytes w → Spelled A bytes z → w ≡ z
   spelled-unique spelled-none spelled-none = refl
   spelled-unique (spelled-more s p) (spelled-more r q) = ap₂ _∷_ (spells-unique s r) (spelled-unique p q)
-
-  pub spelled-length : {bytes : List ℕ} {w : List Tag} → Spelled A bytes w → length bytes ≡ length w
-  spelled-length spelled-none = refl
-  spelled-length (spelled-more s p) = ap suc (spelled-length p)

@@ -7,7 +7,7 @@ use native.Mathlib.Omega.{arith}
 use Rattle.hedge.specs.Schema.{Valid}
 use Rattle.summary.specs.Fragments.{schemaOf, binoidOf}
 use Rattle.trees.specs.Verdict.{Decision, met, passed, used}
-use Rattle.trees.proofs.BudgetLaws.{decides-larger, decided-first}
+use Rattle.trees.proofs.BudgetLaws.{met-not-used, passed-not-used, decides-larger, decided-first}
 use Rattle.rounds.specs.declared.CheckReply.{CheckReply}
 use Rattle.rounds.specs.declared.CheckReply.the-variants as check
 use Rattle.rounds.specs.Answers.{answer}
@@ -21,18 +21,12 @@ module _ (f t : List ℕ) (budget more : ℕ) (larger : budget ≤ more) (low : 
   decided-larger d other (lent, sound, page, decides) =
       (lent-larger lent, sound, page, decides-larger (EventOf f) (NewOf f) d decides other larger)
 
-  met-other : (r k : ℕ) → met r k ≡ used → ⊥
-  met-other r k e = let z : _≡_ {A = ℕ} 0 1 = cc e in omega (arith, z)
-
-  passed-other : (r : ℕ) → passed r ≡ used → ⊥
-  passed-other r e = let z : _≡_ {A = ℕ} 0 1 = cc e in omega (arith, z)
-
   pub check-larger : (s : CheckReply) (t′ : List ℕ) → (answer s ≡ 5 → ⊥) → CheckSays f t budget s t′ → CheckSays f t more s t′
-  check-larger (check.Passed r n) t′ other (d, rows) = (decided-larger (passed r) (passed-other r) d, rows)
-  check-larger (check.Mismatch r) t′ other (d, h) = (decided-larger (met r 1) (met-other r 1) d, h)
-  check-larger (check.Invalid r) t′ other (d, h) = (decided-larger (met r 2) (met-other r 2) d, h)
-  check-larger (check.TooDeep r) t′ other (d, h) = (decided-larger (met r 3) (met-other r 3) d, h)
-  check-larger (check.Crowded r) t′ other (d, h) = (decided-larger (met r 4) (met-other r 4) d, h)
+  check-larger (check.Passed r n) t′ other (d, rows) = (decided-larger (passed r) (passed-not-used r) d, rows)
+  check-larger (check.Mismatch r) t′ other (d, h) = (decided-larger (met r 1) (met-not-used r 1) d, h)
+  check-larger (check.Invalid r) t′ other (d, h) = (decided-larger (met r 2) (met-not-used r 2) d, h)
+  check-larger (check.TooDeep r) t′ other (d, h) = (decided-larger (met r 3) (met-not-used r 3) d, h)
+  check-larger (check.Crowded r) t′ other (d, h) = (decided-larger (met r 4) (met-not-used r 4) d, h)
   check-larger (check.OutOfRounds b) t′ other says = absurd (other refl)
   check-larger check.NoPage t′ other (lent, sound, none, h) = (lent-larger lent, sound, none, h)
   check-larger (check.BadFile p) t′ other (lent, e, h) = (lent-larger lent, e, h)

@@ -17,14 +17,14 @@ use Rattle.rounds.specs.declared.Event.the-variants as told
 use Rattle.rounds.specs.Checks.{RuleOf, EventOf, NewOf}
 use Rattle.rounds.specs.Walking.{WalkedUnder, Tells}
 use Rattle.rounds.proofs.ResultLaws.{MismatchOf, InvalidOf, DeepOf, CrowdedOf, Holding}
-use Rattle.rounds.proofs.StateLaws.{After, state-quiet}
+use Rattle.rounds.proofs.StateLaws.{AfterRound, state-quiet}
 use Rattle.rounds.proofs.WalkedLaws.{stopped-mismatch, went-matched, went-invalid, went-valid, went-deep, went-shallow}
 use Rattle.rounds.proofs.WalkedLaws.{went-crowded, went-room, older-tabled, tabled-image, image-tabled, no-more-new, more-new}
 
 abbrev pub DecidesUnder : List ℕ → ℕ → Decision → Type 0
 DecidesUnder f = Decides (EventOf f) (NewOf f)
 
-module _ (f t₀ t t′ : List ℕ) (sound : IsSound f) (r prev n : ℕ) (state : After f t₀ t r prev n) where
+module _ (f t₀ t t′ : List ℕ) (sound : IsSound f) (r prev n : ℕ) (state : AfterRound f t₀ t r prev n) where
   quiet : Quiet (EventOf f) (NewOf f) r
   quiet = state-quiet f t₀ t r prev n state r (omega arith)
 
@@ -89,7 +89,7 @@ module _ (f t₀ t t′ : List ℕ) (sound : IsSound f) (r prev n : ℕ) (state 
       image-tabled f sound t t′ n r (state .rows) quiet m notes walked (nothing .2) p,
     )
 
-    pub next-state : Tells notes told.Nothing → (m ≡ n → ⊥) → After f t₀ t′ (suc r) n m
+    pub next-state : Tells notes told.Nothing → (m ≡ n → ⊥) → AfterRound f t₀ t′ (suc r) n m
     next-state nothing other =
         let grown = walked .0 in
         let more : n ≤ m = grown .more in

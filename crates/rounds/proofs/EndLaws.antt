@@ -17,7 +17,7 @@ use Rattle.rounds.specs.declared.Event.{Event}
 use Rattle.rounds.specs.declared.Event.the-variants as told
 use Rattle.rounds.specs.Checks.{HasPage, zeroed, Lent, Decided, CheckSays}
 use Rattle.rounds.specs.Walking.{WalkedUnder, Tells}
-use Rattle.rounds.proofs.StateLaws.{After, state-used}
+use Rattle.rounds.proofs.StateLaws.{AfterRound, state-used}
 use Rattle.rounds.proofs.DecisionLaws.{DecidesUnder, stopped-decides, invalid-decides, deep-decides, crowded-decides}
 use Rattle.rounds.proofs.DecisionLaws.{passed-decides, next-rows, next-state}
 use Rattle.rounds.proofs.PassLaws.{sorted-rows, sorted-count, cleared-zeroed, sorted-shown}
@@ -32,7 +32,7 @@ walked-rest f t t′ n Stopped (l, rest, found) = rest
 walked-rest f t t′ n (Went m notes) (grown, happened, noted) = grown .same-rest
 
 -- the budget is used
-pub ends-used : {f t₀ t u : List ℕ} {budget r prev n : ℕ} → Lent f t₀ budget → IsSound f → HasPage f → After f t₀ t r prev n → budget ≤ r
+pub ends-used : {f t₀ t u : List ℕ} {budget r prev n : ℕ} → Lent f t₀ budget → IsSound f → HasPage f → AfterRound f t₀ t r prev n → budget ≤ r
     → u ≡ cleared t 0 5120 → CheckSays f t₀ budget (check.OutOfRounds budget) u
 ends-used {f} {t₀} {t} {u} {budget} {r} {prev} {n} lent sound page state h e =
     (refl, (lent, sound, page, state-used f t₀ t r prev n budget state h), cleared-zeroed t₀ t (state .same-rest) u e)
@@ -44,7 +44,7 @@ pub record Turn (f t₀ t t′ : List ℕ) (budget r prev n : ℕ) (w : Walk) : 
   pub lent : Lent f t₀ budget
   pub sound : IsSound f
   pub page : HasPage f
-  pub state : After f t₀ t r prev n
+  pub state : AfterRound f t₀ t r prev n
   pub within : r < budget
   pub walked : WalkedUnder f t n w t′
 
@@ -113,7 +113,7 @@ module _ {f t₀ t t′ : List ℕ} {budget r prev n : ℕ} {w : Walk} (turn : T
         )
 
     -- a row came, and the rounds go on
-    pub goes-on : e ≡ told.Nothing → (m ≡ n → ⊥) → (r + 1 ≤ budget) × After f t₀ t′ (r + 1) n m
+    pub goes-on : e ≡ told.Nothing → (m ≡ n → ⊥) → (r + 1 ≤ budget) × AfterRound f t₀ t′ (r + 1) n m
     goes-on d other =
         let within = turn .within in (
           omega (arith, within),

@@ -9,29 +9,23 @@ use native.Mathlib.Omega.{arith}
 use lib.ListN.{length}
 use Rattle.trees.specs.Events.{Pair, Distinct, distinct-none, distinct-more}
 use Rattle.rows.specs.Tables.{rowAt}
-use Rattle.rows.specs.Packed.{RowOf}
+use Rattle.rows.proofs.TableLaws.{Differing}
 use Rattle.rows.proofs.RowLaws.{row-pair, pair-row}
-use Rattle.walk.specs.Slots.{Tabled}
+use Rattle.walk.specs.Slots.{PairRow, Tabled}
 
--- the row packs the pair
-abbrev pub Packs : List ℕ → Pair ℕ → Type 0
-Packs row p = RowOf row (p .of) (p .form) (p .last)
-
-pub packs-pair : (row : List ℕ) (p q : Pair ℕ) → Packs row p → Packs row q → p ≡ q
-packs-pair row p q a b =
+-- a row packs one pair, and a pair has one row
+pub row-one-pair : (row : List ℕ) (p q : Pair ℕ) → PairRow row p → PairRow row q → p ≡ q
+row-one-pair row p q a b =
     let (x, s, c) = row-pair row (p .of) (q .of) (p .form) (q .form) (p .last) (q .last) a b in
     λ i. record { of = x i; form = s i; last = c i }
 
-pub packs-row : (row row′ : List ℕ) (p : Pair ℕ) → Packs row p → Packs row′ p → row ≡ row′
-packs-row row row′ p a b = pair-row row row′ (p .of) (p .form) (p .last) a b
+pub pair-one-row : (row row′ : List ℕ) (p : Pair ℕ) → PairRow row p → PairRow row′ p → row ≡ row′
+pair-one-row row row′ p a b = pair-row row row′ (p .of) (p .form) (p .last) a b
 
--- ---- rows that pack pairs, and differ
+-- ---- rows that pack pairs
 
-abbrev pub Packing : List ℕ → ℕ → Type 0
-Packing t n = (k : ℕ) → k < n → (p : Pair ℕ) × Packs (rowAt t k) p
-
-abbrev pub Differing : List ℕ → ℕ → Type 0
-Differing t n = (j k : ℕ) → j < n → k < n → rowAt t j ≡ rowAt t k → j ≡ k
+abbrev pub PairRows : List ℕ → ℕ → Type 0
+PairRows t n = (k : ℕ) → k < n → (p : Pair ℕ) × PairRow (rowAt t k) p
 
 -- more rows have the pairs of fewer
 pub tabled-more : (t : List ℕ) {m n : ℕ} → m ≤ n → (p : Pair ℕ) → Tabled t m p → Tabled t n p
@@ -51,12 +45,12 @@ pub record Listed (t : List ℕ) (n : ℕ) : Type 0 where
 
 module _ (t : List ℕ) where
   -- a pair of the last row is not one of the rows before
-  last-new : (n : ℕ) → Differing t (suc n) → (p : Pair ℕ) → Packs (rowAt t n) p → Tabled t n p → ⊥
+  last-new : (n : ℕ) → Differing t (suc n) → (p : Pair ℕ) → PairRow (rowAt t n) p → Tabled t n p → ⊥
   last-new n different p a (k, l, b) =
-      let e : k ≡ n = different k n (omega (arith, l)) (omega arith) (packs-row (rowAt t k) (rowAt t n) p b a) in
+      let e : k ≡ n = different k n (omega (arith, l)) (omega arith) (pair-one-row (rowAt t k) (rowAt t n) p b a) in
       omega (arith, l, e)
 
-  last-or-before : (n : ℕ) (q p : Pair ℕ) → Packs (rowAt t n) q → (l : List (Pair ℕ))
+  last-or-before : (n : ℕ) (q p : Pair ℕ) → PairRow (rowAt t n) q → (l : List (Pair ℕ))
       → ((p : Pair ℕ) → Tabled t n p → List·Memᴰ p l) → Tabled t (suc n) p → List·Memᴰ p (q ∷ l)
   last-or-before n q p a l every (k, h, b) = from (decLt k n)
     where
@@ -64,9 +58,9 @@ module _ (t : List ℕ) where
       from (yes s) = List·Memᴰ·tail (every p (k, s, b))
       from (no s) =
           let e : k ≡ n = omega (arith, h, s) in
-          List·Memᴰ·head (packs-pair (rowAt t n) p q (rw e at b) a)
+          List·Memᴰ·head (row-one-pair (rowAt t n) p q (rw e at b) a)
 
-  listed-more : (n : ℕ) → Differing t (suc n) → (q : Pair ℕ) → Packs (rowAt t n) q → Listed t n → Listed t (suc n)
+  listed-more : (n : ℕ) → Differing t (suc n) → (q : Pair ℕ) → PairRow (rowAt t n) q → Listed t n → Listed t (suc n)
   listed-more n different q a l = record {
     pairs = q ∷ l .pairs;
     count = ap suc (l .count);
@@ -76,15 +70,15 @@ module _ (t : List ℕ) where
     every = λ p b. last-or-before n q p a (l .pairs) (l .every) b;
   }
 
-  pub listed : (n : ℕ) → Packing t n → Differing t n → Listed t n
-  listed zero packing different = record {
+  pub listed : (n : ℕ) → PairRows t n → Differing t n → Listed t n
+  listed zero pair-rows different = record {
     pairs = [];
     count = refl;
     distinct = distinct-none;
     each = λ p m. absurd (List·Memᴰ·not-nil m);
     every = λ p (k, l, a). absurd (omega (arith, l));
   }
-  listed (suc n) packing different =
-      let (q, a) = packing n (omega arith) in
+  listed (suc n) pair-rows different =
+      let (q, a) = pair-rows n (omega arith) in
       listed-more n different q a
-      (listed n (λ k l. packing k (omega (arith, l))) (λ j k l m. different j k (omega (arith, l)) (omega (arith, m))))
+      (listed n (λ k l. pair-rows k (omega (arith, l))) (λ j k l m. different j k (omega (arith, l)) (omega (arith, m))))

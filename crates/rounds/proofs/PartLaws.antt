@@ -6,6 +6,7 @@ use mathlib.Core.List.{List}
 use mathlib.Core.Logic.{_↔_}
 use Prim.Native.Nat.{ℕ, _+_, _*_, _≤_}
 use native.Mathlib.Omega.{arith}
+use borrow.Author.Tests.{not-true, not-false}
 use Rattle.hedge.specs.Schema.{RulesBelow, EndsBelow}
 use Rattle.hedge.specs.Relation.{bit}
 use Rattle.hedge.specs.Operations.{unit}
@@ -16,7 +17,6 @@ use Rattle.template.specs.declared.Reading.the-variants.{Sound}
 use Rattle.template.specs.declared.Shape.{Shape}
 use Rattle.template.proofs.SoundLaws.{reading-sound, sound-file}
 use Rattle.stack.specs.Steps.{Schooled}
-use Rattle.summary.proofs.FitLaws.{not-true, not-false}
 use Rattle.summary.proofs.ShapeLaws.{shape-sound, states-are, states-few, rules-are, endings-are, rules-below, ends-below, schooled}
 use Rattle.trees.specs.Trees.{Useful, Reached}
 use Rattle.useful.specs.Marks.{Ruled, MarksAll, Fruitful}

@@ -2,41 +2,16 @@
 -- packs an image and each image has its row. On any other answer of the rounds there are zeros alone. Assumes nothing.
 use mathlib.Core.Path.{_≡_, sym, _∙_, subst}
 use mathlib.Core.List.{List}
-use Prim.Native.Nat.{ℕ, zero, suc, _+_, _*_, _≤_}
-use native.Mathlib.Omega.{arith}
-use lib.ListN.{length, drop, take}
-use lib.Seq.{drop-drop}
+use Prim.Native.Nat.{ℕ, _*_, _≤_}
+use lib.ListN.{length, drop}
 use Rattle.rows.specs.Tables.{rowAt, rowsOf, tableOf, sorted, cleared}
 use Rattle.rows.proofs.TableLaws.{rows-length, row-member, member-row}
 use Rattle.rows.proofs.PutLaws.{sorted-length, sorted-keeps, sorted-only}
-use Rattle.rows.proofs.SortLaws.{NoRepeats, sorted-ascends}
+use Rattle.rows.proofs.SortLaws.{rows-no-repeats, sorted-ascends}
 use Rattle.rows.proofs.ClearLaws.{sorted-cleared, whole-cleared}
-use Rattle.rounds.specs.Checks.{Rows, shown, zeroed}
+use Rattle.rounds.specs.Checks.{PairRow, Rows, shown, zeroed}
 use Rattle.rounds.specs.Walking.{TidyUnder}
-use Rattle.rounds.proofs.ListedLaws.{Packs, Differing}
 use Rattle.rounds.proofs.ResultLaws.{Holding}
-
--- ---- rows that differ
-
-row-after : (t : List ℕ) (k : ℕ) → rowAt (drop 20 t) k ≡ rowAt t (suc k)
-row-after t k =
-    let e : suc k * 20 ≡ 20 + k * 20 = omega arith in
-    rw (e, drop-drop (k * 20) 20 t)
-
-pub rows-no-repeats : (n : ℕ) (t : List ℕ) → Differing t n → NoRepeats (rowsOf n t)
-unfolding rowsOf
-rows-no-repeats zero t different = tt
-rows-no-repeats (suc n) t different = (
-  λ a.
-      let (k, h, e) = member-row (take 20 t) n (drop 20 t) a in
-      let z : 0 ≡ suc k = different 0 (suc k) (omega arith) (omega (arith, h)) (e ∙ row-after t k) in
-      omega (arith, z),
-  rows-no-repeats n (drop 20 t)
-      (λ j k a b e.
-      let same : suc j ≡ suc k = different (suc j) (suc k) (omega (arith, a)) (omega (arith, b))
-      (sym (row-after t j) ∙ (e ∙ row-after t k)) in
-      omega (arith, same)),
-)
 
 -- ---- the rows of the images
 
@@ -47,7 +22,7 @@ module _ (f t : List ℕ) (n r : ℕ) (tidy : TidyUnder f t n) (rows : Holding f
     each-image = λ row a.
         let (k, h, e) = member-row row n t (sorted-only (rowsOf n t) row a) in
         let (p, b, g) = tidy .proper k h in
-        (p, rows p .0 (k, h, b), subst (λ (l : List ℕ). Packs l p) (sym e) b);
+        (p, rows p .0 (k, h, b), subst (λ (l : List ℕ). PairRow l p) (sym e) b);
     every-image = λ p i.
         let (k, h, b) = rows p .1 i in
         (rowAt t k, sorted-keeps (rowsOf n t) (rowAt t k) (row-member k n t h), b);

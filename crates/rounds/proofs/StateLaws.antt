@@ -25,7 +25,7 @@ use Rattle.rounds.proofs.FormLaws.{PageForm, form-decided}
 use Rattle.rounds.proofs.ResultLaws.{Over, Holding, over-image, over-mismatch, over-deep, over-invalid}
 
 -- the state after round r, of a table that was t₀ at the start
-pub record After (f t₀ t : List ℕ) (r prev n : ℕ) : Type 0 where
+pub record AfterRound (f t₀ t : List ℕ) (r prev n : ℕ) : Type 0 where
   pub same-length : length t ≡ length t₀
   pub same-rest : drop 5120 t ≡ drop 5120 t₀
   pub tidy : TidyUnder f t n
@@ -39,7 +39,7 @@ module _ (f t₀ : List ℕ) where
   nothing-tabled : (t : List ℕ) → Holding f t 0 0
   nothing-tabled t p = (λ (k, l, a). absurd (omega (arith, l)), λ i. absurd (image-none i))
 
-  pub start-state : 5120 ≤ length t₀ → After f t₀ t₀ 0 0 0
+  pub start-state : 5120 ≤ length t₀ → AfterRound f t₀ t₀ 0 0 0
   start-state room = record {
     same-length = refl;
     same-rest = refl;
@@ -56,12 +56,12 @@ module _ (f t₀ : List ℕ) where
   }
 
   -- no event so far
-  pub state-quiet : (t : List ℕ) (r prev n : ℕ) → After f t₀ t r prev n → (j : ℕ) → j ≤ r → Quiet (EventOf f) (NewOf f) j
+  pub state-quiet : (t : List ℕ) (r prev n : ℕ) → AfterRound f t₀ t r prev n → (j : ℕ) → j ≤ r → Quiet (EventOf f) (NewOf f) j
   state-quiet t r prev n s zero h = event-none (RuleOf f) (binoidOf f) (Valid (schemaOf f)) 16 256
   state-quiet t r prev n s (suc j) h = s .went (suc j) (omega arith) (omega (arith, h)) .0
 
   -- the budget is used
-  pub state-used : (t : List ℕ) (r prev n budget : ℕ) → After f t₀ t r prev n → budget ≤ r → Decides (EventOf f) (NewOf f) budget used
+  pub state-used : (t : List ℕ) (r prev n budget : ℕ) → AfterRound f t₀ t r prev n → budget ≤ r → Decides (EventOf f) (NewOf f) budget used
   state-used t r prev n budget s h j l k = s .went j l (omega (arith, h, k))
 
 -- ---- what the walk asks
@@ -94,13 +94,13 @@ module _ (f : List ℕ) (sound : IsSound f) (t : List ℕ) (prev n q : ℕ) (bef
 
 module _ (f t₀ : List ℕ) (sound : IsSound f) where
   -- at the start no row, since it would pack an image
-  no-rows : (t : List ℕ) (prev n : ℕ) → After f t₀ t 0 prev n → n ≡ 0
+  no-rows : (t : List ℕ) (prev n : ℕ) → AfterRound f t₀ t 0 prev n → n ≡ 0
   no-rows t prev zero s = refl
   no-rows t prev (suc n) s =
       let (p, a, g) = s .tidy .proper 0 (omega arith) in
       absurd (image-none (s .rows p .0 (0, omega arith, a)))
 
-  pub state-ready : (t : List ℕ) (r prev n : ℕ) → After f t₀ t r prev n
+  pub state-ready : (t : List ℕ) (r prev n : ℕ) → AfterRound f t₀ t r prev n
       → ReadyUnder f t prev n (eqb r 0)
   state-ready t zero prev n s = record {
     older = s .older;

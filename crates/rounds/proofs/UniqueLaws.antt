@@ -15,7 +15,7 @@ use Rattle.rows.proofs.SortLaws.{ascending-unique}
 use Rattle.rounds.specs.declared.CheckReply.{CheckReply}
 use Rattle.rounds.specs.declared.CheckReply.the-variants as check
 use Rattle.rounds.specs.Checks.{EventOf, NewOf, HasPage, Rows, shown, zeroed, Lent, Decided, CheckSays}
-use Rattle.rounds.proofs.ListedLaws.{packs-row}
+use Rattle.rounds.proofs.ListedLaws.{pair-one-row}
 
 -- ---- one list of rows
 
@@ -24,7 +24,7 @@ rows-included : (f : List ℕ) (r : ℕ) (rows rows′ : List (List ℕ)) → Ro
 rows-included f r rows rows′ a b row m =
     let (p, i, c) = a .each-image row m in
     let (row′, n, d) = b .every-image p i in
-    Memᴰ·cast (packs-row row row′ p c d) n
+    Memᴰ·cast (pair-one-row row row′ p c d) n
 
 pub rows-unique : (f : List ℕ) (r : ℕ) (rows rows′ : List (List ℕ)) → Rows f r rows → Rows f r rows′ → rows ≡ rows′
 rows-unique f r rows rows′ a b =
@@ -107,12 +107,12 @@ module _ (f t : List ℕ) (budget : ℕ) where
   abbrev pub Paged : Promise
   Paged = Either (HasPage f → ⊥) (Exactly check.NoPage t) Rounded
 
-  abbrev pub Ordered : Promise
-  Ordered =
+  abbrev pub OrderedPromise : Promise
+  OrderedPromise =
       Either (length t < 5120) (Exactly check.ShortTable t)
       (Either NoBudget (Exactly check.BadBudget t) (Either Faulty Faulted Paged))
 
-  pub ordered-unique : Unique Ordered
+  pub ordered-unique : Unique OrderedPromise
   ordered-unique =
       either-unique (length t < 5120) (Exactly check.ShortTable t) _ (exactly-unique check.ShortTable t)
       (either-unique NoBudget (Exactly check.BadBudget t) _ (exactly-unique check.BadBudget t)
@@ -121,16 +121,16 @@ module _ (f t : List ℕ) (budget : ℕ) where
 
   -- ---- every promise stands in the order
 
-  lent-ordered : (s : CheckReply) (u : List ℕ) → Lent f t budget → Either Faulty Faulted Paged s u → Ordered s u
+  lent-ordered : (s : CheckReply) (u : List ℕ) → Lent f t budget → Either Faulty Faulted Paged s u → OrderedPromise s u
   lent-ordered s u (room, low, high) x = inr (λ h. omega (arith, room, h), inr (λ none. none (low, high), x))
 
-  sound-ordered : (s : CheckReply) (u : List ℕ) → Lent f t budget → IsSound f → Paged s u → Ordered s u
+  sound-ordered : (s : CheckReply) (u : List ℕ) → Lent f t budget → IsSound f → Paged s u → OrderedPromise s u
   sound-ordered s u lent sound x = lent-ordered s u lent (inr (λ (p, e). sound-not-bad f p sound e, x))
 
-  decided-ordered : (d : Decision) (s : CheckReply) (u : List ℕ) → Decided f t budget d → Answered d s u → Ordered s u
+  decided-ordered : (d : Decision) (s : CheckReply) (u : List ℕ) → Decided f t budget d → Answered d s u → OrderedPromise s u
   decided-ordered d s u (lent, sound, page, decides) a = sound-ordered s u lent sound (inr (λ none. none page, (d, decides, a)))
 
-  pub says-ordered : (s : CheckReply) (u : List ℕ) → CheckSays f t budget s u → Ordered s u
+  pub says-ordered : (s : CheckReply) (u : List ℕ) → CheckSays f t budget s u → OrderedPromise s u
   says-ordered (check.Passed r n) u (d, (rows, x, e, h)) =
       decided-ordered (passed r) (check.Passed r n) u d (rows, x, (ap (check.Passed r) e, h))
   says-ordered (check.Mismatch r) u (d, h) = decided-ordered (met r 1) (check.Mismatch r) u d (refl, h)

@@ -17,14 +17,14 @@ use Rattle.trees.proofs.EventLaws.{image-later}
 use Rattle.trees.proofs.RoundLaws.{InvalidOutcome}
 use Rattle.trees.proofs.TableLaws.{row-more-crowded, rows-not-crowded}
 use Rattle.rows.specs.Tables.{rowAt}
-use Rattle.walk.specs.Slots.{Tabled}
+use Rattle.walk.specs.Slots.{PairRow, Tabled}
 use Rattle.walk.specs.Walks.{Grown, Happened, Noted}
 use Rattle.walk.specs.declared.Notes.{Notes}
 use Rattle.walk.specs.declared.Walk.the-variants.{Stopped, Went}
 use Rattle.rounds.specs.Checks.{ImageOf, EventOf, NewOf}
 use Rattle.rounds.specs.Walking.{WalkedUnder}
 use Rattle.rounds.proofs.FormLaws.{PageForm}
-use Rattle.rounds.proofs.ListedLaws.{Packs, packs-pair, packs-row, tabled-same, Listed, listed}
+use Rattle.rounds.proofs.ListedLaws.{row-one-pair, pair-one-row, tabled-same, Listed, listed}
 use Rattle.rounds.proofs.ResultLaws.{MismatchOf, InvalidOf, DeepOf, CrowdedOf, Over, Holding}
 use Rattle.rounds.proofs.ResultLaws.{over-image, over-mismatch, over-deep, over-invalid}
 
@@ -77,10 +77,10 @@ module _ (f : List ℕ) (sound : IsSound f) (t t′ : List ℕ) (n r : ℕ) (row
 
     -- ---- the rows are the images
 
-    pub row-image : (k : ℕ) → n ≤ k → k < m → (p : Pair ℕ) → Packs (rowAt t′ k) p → ImageOf f (suc r) p
+    pub row-image : (k : ℕ) → n ≤ k → k < m → (p : Pair ℕ) → PairRow (rowAt t′ k) p → ImageOf f (suc r) p
     row-image k low high p a =
         let (q, b, o, few) = grown .found k low high in
-        subst (ImageOf f (suc r)) (packs-pair (rowAt t′ k) q p b a) (over-image f sound t n r rows quiet q .1 (o, few))
+        subst (ImageOf f (suc r)) (row-one-pair (rowAt t′ k) q p b a) (over-image f sound t n r rows quiet q .1 (o, few))
 
     -- the rows below n hold what they held
     pub older-tabled : Holding f t′ n r
@@ -134,6 +134,6 @@ module _ (f : List ℕ) (sound : IsSound f) (t t′ : List ℕ) (n r : ℕ) (row
           here = row-image n (omega arith) h p a;
           not-before = λ i.
               let (k, l, b) = older-tabled p .1 i in
-              let e : k ≡ n = grown .tidy .different k n (omega (arith, l, h)) h (packs-row (rowAt t′ k) (rowAt t′ n) p b a) in
+              let e : k ≡ n = grown .tidy .different k n (omega (arith, l, h)) h (pair-one-row (rowAt t′ k) (rowAt t′ n) p b a) in
               omega (arith, l, e);
         }

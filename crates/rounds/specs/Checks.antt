@@ -15,7 +15,7 @@ use Rattle.trees.specs.Trees.{Productive}
 use Rattle.trees.specs.Events.{Pair, Image, Event, New}
 use Rattle.trees.specs.Verdict.{Decision, met, passed, used, Decides}
 use Rattle.rows.specs.Tables.{flat, Ascending}
-use Rattle.rows.specs.Packed.{RowOf}
+pub use Rattle.walk.specs.Slots.{PairRow}
 use Rattle.rounds.specs.declared.CheckReply.{CheckReply}
 use Rattle.rounds.specs.declared.CheckReply.the-variants as check
 
@@ -40,8 +40,8 @@ module _ (f : List ℕ) where
   -- the rows, ascending, are those of the images after round r
   pub record Rows (r : ℕ) (rows : List (List ℕ)) : Type 0 where
     pub ascending : Ascending rows
-    pub each-image : (row : List ℕ) → List·Memᴰ row rows → (p : Pair ℕ) × ImageOf r p × RowOf row (p .of) (p .form) (p .last)
-    pub every-image : (p : Pair ℕ) → ImageOf r p → (row : List ℕ) × List·Memᴰ row rows × RowOf row (p .of) (p .form) (p .last)
+    pub each-image : (row : List ℕ) → List·Memᴰ row rows → (p : Pair ℕ) × ImageOf r p × PairRow row p
+    pub every-image : (p : Pair ℕ) → ImageOf r p → (row : List ℕ) × List·Memᴰ row rows × PairRow row p
 
 -- the rows, then zeros; 5,120 zeros
 abbrev pub shown : List (List ℕ) → List ℕ → List ℕ

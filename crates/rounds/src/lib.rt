@@ -33,12 +33,6 @@ pub enum Event {
     Nothing,
 }
 
-fn wide(x: u8) -> usize
-    ensures { λ r. ⌜ r ≡ x ⌝ }
-{
-    x as usize
-}
-
 // The event that the notes of a walk tell.
 fn event_of(notes: walk::Notes) -> Event
     ensures { λ r. ⌜ Tells notes r ⌝ }
@@ -74,7 +68,7 @@ fn one_round(
     let rules = template::template_rules(file, shape.templates);
     let schema = template::schema_rules(file, shape.templates, shape.schema);
     let endings = template::ending_states(file, shape.templates, shape.schema, shape.endings);
-    let states = wide(shape.states);
+    let states = words::wide(shape.states);
     let empty = hedge::unit(states);
     walk::walk_round(
         rules,

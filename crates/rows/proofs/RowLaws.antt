@@ -2,17 +2,15 @@
 -- one nonterminal, form and last relation; and these have one row, since a form has one way to stand in the arrays. Assumes nothing.
 use mathlib.Core.Path.{_≡_, sym, ap, _∙_}
 use mathlib.Core.List.{List}
-use Prim.Native.Nat.{ℕ, _+_, _<_}
+use Prim.Native.Nat.{ℕ, _+_}
 use native.Mathlib.Omega.{arith}
 use lib.ListN.{length, getD, drop}
 use Rattle.words.specs.Reduced.{Stack}
-use Rattle.words.specs.Reader.{fits}
 use Rattle.stack.specs.Held.{stackOf}
-use Rattle.stack.specs.Steps.{Holds, held}
+use Rattle.stack.specs.Steps.{Holds}
 use Rattle.stack.proofs.PackLaws.{pack-unique}
-use Rattle.rows.specs.Packed.{packed, nonterminalIn, endsIn, startsIn, namesIn, RowOf}
+use Rattle.rows.specs.Packed.{nonterminalIn, endsIn, startsIn, namesIn, RowOf}
 use Rattle.rows.proofs.PackedLaws.{packed-values, packed-length, packed-nonterminal, packed-ends, packed-starts, packed-names}
-use Rattle.rows.proofs.PackedLaws.{packed-row}
 
 module _ (row : List ℕ) (x : ℕ) (form : Stack ℕ) (last : ℕ) (r : RowOf row x form last) where
   pub row-length : length row ≡ 20
@@ -51,29 +49,6 @@ module _ (row : List ℕ) (x : ℕ) (form : Stack ℕ) (last : ℕ) (r : RowOf r
 
   pub row-last : getD (drop 3 row) (endsIn row + startsIn row) 0 ≡ last
   row-last = rw (row-ends, row-starts, row-values) (r .last-is)
-
-  pub row-bytes : (k : ℕ) → getD (namesIn row 0 16) k 0 < 256
-  row-bytes k = rw row-names (r .bytes k)
-
--- ---- the row that the code packs, and the arrays that it unpacks
-
-pub pack-row : (row : List ℕ) (x e s : ℕ) (names values : List ℕ) (form : Stack ℕ) (last : ℕ) → row ≡ packed x e s names values → x < 256
-    → ((k : ℕ) → getD names k 0 < 256) → Holds e s names values → held e s names values ≡ fits form last → RowOf row x form last
-pack-row row x e s names values form last is small bytes holds says =
-    let f : stackOf e names values (e + s) ≡ form = cc says in
-    let l : getD values (e + s) 0 ≡ last = cc says in
-    rw (is, ← f, ← l) (packed-row x e s names values small bytes holds)
-
-module _ (row : List ℕ) (x : ℕ) (form : Stack ℕ) (last : ℕ) (r : RowOf row x form last) (e s : ℕ) (names values : List ℕ)
-    (e-is : e ≡ endsIn row) (s-is : s ≡ startsIn row) (names-is : names ≡ namesIn row 0 16) (values-is : values ≡ drop 3 row) where
-  pub unpack-holds : Holds e s names values
-  unpack-holds = rw (e-is, s-is, names-is, values-is) (row-holds row x form last r)
-
-  pub unpack-held : held e s names values ≡ fits form last
-  unpack-held = rw (e-is, s-is, names-is, values-is, row-form row x form last r, row-last row x form last r)
-
-  pub unpack-bytes : (k : ℕ) → getD names k 0 < 256
-  unpack-bytes k = rw names-is (row-bytes row x form last r k)
 
 -- ---- one row has one form
 

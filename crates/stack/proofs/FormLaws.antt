@@ -19,8 +19,8 @@ use Rattle.stack.specs.Steps.{Holds, held, outcome, Stepped, after-tag, 
 use Rattle.stack.specs.declared.Step.{Step}
 use Rattle.stack.specs.declared.Step.the-variants.{Kept}
 use Rattle.stack.proofs.HeldLaws.{tags-held, ends-first-held}
-use Rattle.stack.proofs.TagLaws.{says-held}
-use Rattle.stack.proofs.TurnLaws.{Refused, kept-holds, kept-room, kept-fits, held-value, holds-value}
+use Rattle.stack.proofs.TagLaws.{stepped-held}
+use Rattle.stack.proofs.TurnLaws.{IsRefused, kept-holds, kept-room, kept-fits, held-value, holds-value}
 use Rattle.stack.proofs.TurnLaws.{refused-says, refused-value, refused-tag}
 
 module _ (states : ℕ) (schema endings : List ℕ) where
@@ -45,7 +45,7 @@ module _ (states : ℕ) (schema endings : List ℕ) where
 
     -- a refusal stays
 
-    turned-later : (r : Step) → Refused r → (names′ values′ : List ℕ) (k d : ℕ) → outcome r names′ values′ ≡ turned o e names values k
+    turned-later : (r : Step) → IsRefused r → (names′ values′ : List ℕ) (k d : ℕ) → outcome r names′ values′ ≡ turned o e names values k
         → outcome r names′ values′ ≡ turned o e names values (d + k)
     unfolding turned
     turned-later r f names′ values′ k zero p = rw zero-add p
@@ -57,7 +57,7 @@ module _ (states : ℕ) (schema endings : List ℕ) where
           refused-value states schema endings r f names′ values′ (getD values (suc (d + k)) 0),
         )
 
-    pub turned-refused : (r : Step) → Refused r → (names′ values′ : List ℕ) (k n : ℕ) → k ≤ n
+    pub turned-refused : (r : Step) → IsRefused r → (names′ values′ : List ℕ) (k n : ℕ) → k ≤ n
         → outcome r names′ values′ ≡ turned o e names values k → outcome r names′ values′ ≡ turned o e names values n
     turned-refused r f names′ values′ k n l p =
         let z : n - k + k ≡ n = omega arith in rw z at (turned-later r f names′ values′ k (n - k) p)
@@ -103,14 +103,14 @@ module _ (states : ℕ) (schema endings : List ℕ) where
           → Stepped (Kept e₁ s₁) names₁ values₁ (after-form states schema endings e s names values e′ names′ values′ n)
       form-end n e₁ s₁ k names₁ values₁ i l l′ h =
           let z : k ≡ n = omega arith in
-          says-held e₁ s₁ names₁ values₁ (after-form states schema endings e s names values e′ names′ values′ n) h
+          stepped-held e₁ s₁ names₁ values₁ (after-form states schema endings e s names values e′ names′ values′ n) h
           (rw z at i ∙ sym (form-turned n))
 
       pub form-refused : (n e₁ s₁ k : ℕ) (names₁ values₁ : List ℕ) (r : Step) (names₂ values₂ : List ℕ)
           → held e₁ s₁ names₁ values₁ ≡ turned (held e s names first) e′ names′ values′ k → k < n
           → Stepped r names₂ values₂
           (after-turn states schema endings e₁ s₁ names₁ values₁ (tagOf (ltb k e′) (getD names′ k 0)) (getD values′ (k + 1) 0))
-          → (q : Step) → r ≡ q → Refused q → (names₃ values₃ : List ℕ)
+          → (q : Step) → r ≡ q → IsRefused q → (names₃ values₃ : List ℕ)
           → Stepped q names₃ values₃ (after-form states schema endings e s names values e′ names′ values′ n)
       form-refused n e₁ s₁ k names₁ values₁ r names₂ values₂ i l h q p f names₃ values₃ =
           let o = held e s names first in

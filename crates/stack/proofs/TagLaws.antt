@@ -11,7 +11,7 @@ use lib.Seq.{getD-set-same}
 use borrow.Author.Needs.{needs}
 use Rattle.words.specs.Tags.{Tag, start, end}
 use Rattle.words.specs.Reduced.{push, EndsFirst, tags}
-use Rattle.words.specs.Reader.{Limited, fits, differs, too-deep, then-tag-within}
+use Rattle.words.specs.Reader.{Limited, fits, differs, too-deep}
 use Rattle.words.proofs.StepLaws.{step-push, step-same, step-other}
 use Rattle.words.proofs.LimitLaws.{limit-in, limit-out, limit-differ}
 use Rattle.hedge.specs.Operations.{relations, unit, compose, wrap}
@@ -24,18 +24,18 @@ use Rattle.stack.proofs.HeldLaws.{unused-none, unused-put, unused-take,
 
 -- what a step says
 
-pub says-held : (e s : ℕ) (names values : List ℕ) (o : Limited ℕ) → Holds e s names values → held e s names values ≡ o
+pub stepped-held : (e s : ℕ) (names values : List ℕ) (o : Limited ℕ) → Holds e s names values → held e s names values ≡ o
     → Stepped (Kept e s) names values o
 unfolding outcome
-says-held e s names values o h p = record { says = p; tidy = h }
+stepped-held e s names values o h p = record { says = p; tidy = h }
 
-pub says-differs : (a b : ℕ) (names values : List ℕ) (o : Limited ℕ) → o ≡ differs a b → Stepped (Mismatch a b) names values o
+pub stepped-differs : (a b : ℕ) (names values : List ℕ) (o : Limited ℕ) → o ≡ differs a b → Stepped (Mismatch a b) names values o
 unfolding outcome
-says-differs a b names values o p = record { says = sym p; tidy = tt }
+stepped-differs a b names values o p = record { says = sym p; tidy = tt }
 
-pub says-deep : (names values : List ℕ) (o : Limited ℕ) → o ≡ too-deep → Stepped TooDeep names values o
+pub stepped-deep : (names values : List ℕ) (o : Limited ℕ) → o ≡ too-deep → Stepped TooDeep names values o
 unfolding outcome
-says-deep names values o p = record { says = sym p; tidy = tt }
+stepped-deep names values o p = record { says = sym p; tidy = tt }
 
 -- the arrays before any tag, and after a tag more or less
 
@@ -72,13 +72,6 @@ holds-take e s s′ n m v names values p q r h =
     }
 
 module _ (states : ℕ) (schema endings : List ℕ) (e s : ℕ) (names values : List ℕ) where
-  -- after-tag is the tag under the limit, of what the arrays hold
-  pub tag-within : (t : Tag)
-      → then-tag-within (relations 8 states schema endings) 16 (held e s names values) t
-      ≡ after-tag states schema endings e s names values t
-  unfolding after-tag then-tag-within
-  tag-within t = refl
-
   -- a tag that is left unmatched
 
   tag-pushed : (t : Tag) → EndsFirst (push (stackOf e names values (e + s)) (getD values (e + s) 0) t) → e + s < 16
@@ -112,7 +105,7 @@ module _ (states : ℕ) (schema endings : List ℕ) (e s : ℕ) (names values : 
         → Stepped TooDeep names′ values′ (after-tag states schema endings e s names values (tagOf closes name))
     start-deep closes f l =
         rw f
-        (says-deep names′ values′ (after-tag states schema endings e s names values (start name))
+        (stepped-deep names′ values′ (after-tag states schema endings e s names values (start name))
         (tag-over (start name) (ends-first-held e (e + s) names values) l))
 
     pub start-kept : (empty : ℕ) (closes : Bool) → closes ≡ false → Schooled states schema endings empty → Holds e s names values
@@ -123,7 +116,7 @@ module _ (states : ℕ) (schema endings : List ℕ) (e s : ℕ) (names values : 
         let j = h .values-long in
         let z : e + s + 1 ≡ e + (s + 1) = omega arith in
         rw (f, p, q, z)
-        (says-held e (s + 1) (set names (e + s) name) (set values (e + (s + 1)) empty)
+        (stepped-held e (s + 1) (set names (e + s) name) (set values (e + (s + 1)) empty)
         (after-tag states schema endings e s names values (start name))
         (holds-put e s e (s + 1) (e + (s + 1)) name empty names values refl (omega arith) l h)
         (rw (tag-pushed (start name) (ends-first-held e (e + s) names values) l)
@@ -136,7 +129,7 @@ module _ (states : ℕ) (schema endings : List ℕ) (e s : ℕ) (names values : 
         → Stepped TooDeep names′ values′ (after-tag states schema endings e s names values (tagOf closes name))
     end-deep closes f z l =
         rw f
-        (says-deep names′ values′ (after-tag states schema endings e s names values (end name))
+        (stepped-deep names′ values′ (after-tag states schema endings e s names values (end name))
         (tag-over (end name) (only-ends-held e (e + s) names values (omega arith)) l))
 
     pub end-kept : (empty : ℕ) (closes : Bool) → closes ≡ true → Schooled states schema endings empty → Holds e s names values
@@ -148,7 +141,7 @@ module _ (states : ℕ) (schema endings : List ℕ) (e s : ℕ) (names values : 
         let z : e + s + 1 ≡ e + 1 = omega arith in
         let none : e + 1 + 0 ≡ e + 1 = omega arith in
         rw (f, p, q, z)
-        (says-held (e + 1) 0 (set names (e + s) name) (set values (e + 1) empty)
+        (stepped-held (e + 1) 0 (set names (e + s) name) (set values (e + 1) empty)
         (after-tag states schema endings e s names values (end name))
         (holds-put e s (e + 1) 0 (e + 1) name empty names values (omega arith) (omega arith) l h)
         (rw (none, tag-pushed (end name) (only-ends-held e (e + s) names values (omega arith)) l)
@@ -164,7 +157,7 @@ module _ (states : ℕ) (schema endings : List ℕ) (e s : ℕ) (names values : 
     end-differs l n =
         let B = relations 8 states schema endings in
         let a = getD names (e + s - 1) 0 in
-        says-differs a name names′ values′ (after-tag states schema endings e s names values (end name))
+        stepped-differs a name names′ values′ (after-tag states schema endings e s names values (end name))
         (rw (
           top-start l,
           step-other B (stackOf e names values (e + s - 1)) (getD values (e + s - 1) 0) (getD values (e + s) 0) a name n,
@@ -182,7 +175,7 @@ module _ (states : ℕ) (schema endings : List ℕ) (e s : ℕ) (names values : 
         let j = h .values-long in
         let z : e + (s - 1) ≡ e + s - 1 = omega arith in
         rw (p, q)
-        (says-held e (s - 1) (set names (e + s - 1) 0) (set (set values (e + s) 0) (e + s - 1) v)
+        (stepped-held e (s - 1) (set names (e + s - 1) 0) (set (set values (e + s) 0) (e + s - 1) v)
         (after-tag states schema endings e s names values (end name))
         (holds-take e s (s - 1) (e + s) (e + s - 1) v names values refl (omega arith) (omega arith) h)
         (rw (

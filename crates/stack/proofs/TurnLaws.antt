@@ -17,7 +17,7 @@ use Rattle.stack.specs.Steps.{Holds, held, outcome, Stepped, after-tag, 
 use Rattle.stack.specs.declared.Step.{Step}
 use Rattle.stack.specs.declared.Step.the-variants.{Kept, Mismatch, TooDeep}
 use Rattle.stack.proofs.HeldLaws.{stack-value, unused-value}
-use Rattle.stack.proofs.TagLaws.{says-held}
+use Rattle.stack.proofs.TagLaws.{stepped-held}
 
 -- a step that is kept
 
@@ -37,12 +37,12 @@ module _ (r : Step) (names values : List ℕ) (o : Limited ℕ) (e s : ℕ) wher
 
 -- a step that is refused
 
-abbrev pub Refused : Step → Type 0
-Refused (Kept e s) = ⊥
-Refused (Mismatch a b) = Unit {0}
-Refused TooDeep = Unit {0}
+abbrev pub IsRefused : Step → Type 0
+IsRefused (Kept e s) = ⊥
+IsRefused (Mismatch a b) = Unit {0}
+IsRefused TooDeep = Unit {0}
 
-pub refused-says : (r : Step) → Refused r → (names values names′ values′ : List ℕ) (o : Limited ℕ) → outcome r names values ≡ o
+pub refused-says : (r : Step) → IsRefused r → (names values names′ values′ : List ℕ) (o : Limited ℕ) → outcome r names values ≡ o
     → Stepped r names′ values′ o
 unfolding outcome
 refused-says (Kept e s) f names values names′ values′ o p = absurd f
@@ -50,14 +50,14 @@ refused-says (Mismatch a b) f names values names′ values′ o p = record { say
 refused-says TooDeep f names values names′ values′ o p = record { says = p; tidy = tt }
 
 module _ (states : ℕ) (schema endings : List ℕ) where
-  pub refused-value : (r : Step) → Refused r → (names values : List ℕ) (v : ℕ)
+  pub refused-value : (r : Step) → IsRefused r → (names values : List ℕ) (v : ℕ)
       → then-value-within (relations 8 states schema endings) (outcome r names values) v ≡ outcome r names values
   unfolding outcome then-value-within
   refused-value (Kept e s) f names values v = absurd f
   refused-value (Mismatch a b) f names values v = refl
   refused-value TooDeep f names values v = refl
 
-  pub refused-tag : (r : Step) → Refused r → (names values : List ℕ) (n : ℕ) (t : Tag)
+  pub refused-tag : (r : Step) → IsRefused r → (names values : List ℕ) (n : ℕ) (t : Tag)
       → then-tag-within (relations 8 states schema endings) n (outcome r names values) t ≡ outcome r names values
   unfolding outcome then-tag-within
   refused-tag (Kept e s) f names values n t = absurd f
@@ -96,12 +96,12 @@ module _ (states : ℕ) (schema endings : List ℕ) (e s : ℕ) (names values : 
   turn-kept e′ s′ p q =
       let o = after-tag states schema endings e s names values t in
       let h = kept-holds r names′ values′ o e′ s′ told p in
-      says-held e′ s′ names′ values″ (then-value-within (relations 8 states schema endings) o v)
+      stepped-held e′ s′ names′ values″ (then-value-within (relations 8 states schema endings) o v)
       (holds-value e′ s′ (compose 8 states (getD values′ (e′ + s′) 0) v) names′ values′ values″ q h)
       (held-value states schema endings e′ s′ v names′ values′ values″ h q
       ∙ ap (λ o. then-value-within (relations 8 states schema endings) o v) (kept-says r names′ values′ o e′ s′ told p))
 
-  pub turn-refused : (q : Step) → r ≡ q → Refused q → Stepped q names′ values″ (after-turn states schema endings e s names values t v)
+  pub turn-refused : (q : Step) → r ≡ q → IsRefused q → Stepped q names′ values″ (after-turn states schema endings e s names values t v)
   unfolding after-turn
   turn-refused q p f =
       let B = relations 8 states schema endings in

@@ -1,7 +1,7 @@
 -- The test of every place, as a loop carries it out: none, next and end, in the words in which the code has its facts; and the two arms
 -- of a choice. Then what the whole test says, by induction on the bound. Assumes nothing.
-use mathlib.Core.Path.{_≡_, refl, sym}
-use mathlib.Core.Bool.{Bool, true, false, not, _&&_}
+use mathlib.Core.Path.{_≡_, refl}
+use mathlib.Core.Bool.{Bool, true, false, _&&_}
 use mathlib.Core.List.{List}
 use Prim.Native.Nat.{ℕ, zero, suc, _+_, _≤_, _<_}
 use native.Mathlib.Decide.{decLt}
@@ -51,16 +51,6 @@ pub pick-second : (t a b c : Bool) → t ≡ false → c ≡ b → c ≡ pick t 
 pick-second t a b c e h = rw e h
 
 pub ruleset fits-turns = (every-none, every-end, names-next, values-next, pick-first, pick-second, needs)
-
--- ---- a test that was turned
-
-pub not-true : (t : Bool) → not t ≡ true → t ≡ false
-not-true true e = sym e
-not-true false e = refl
-
-pub not-false : (t : Bool) → not t ≡ false → t ≡ true
-not-false true e = refl
-not-false false e = sym e
 
 -- ---- what passes
 

@@ -70,8 +70,8 @@ module _ (f : List ℕ) (shape : Shape) (sound : reading f ≡ Sound shape) (q :
       ) at stepped .says in
       limit-iff (binoidOf f) 16 (outcomeOf f left right) (outcome t names values) .0 (sym e ∙ sym d)
 
-  both : BothSummaries f left right
-  both = (shape-sound f shape sound, hl, hr)
+  both-summaries : BothSummaries f left right
+  both-summaries = (shape-sound f shape sound, hl, hr)
 
   pub joined-kept : (e s : ℕ) → t ≡ step.Kept e s
       → JoinAnswers f left right Joined (record { ends = e; starts = s; names = names; relations = values })
@@ -79,15 +79,15 @@ module _ (f : List ℕ) (shape : Shape) (sound : reading f ≡ Sound shape) (q :
   joined-kept e s d =
       let (o, few) = rw d at joined-limit in
       let k = rw d at stepped .tidy in
-      (both, (_, _, o, few, holds-packs e s names values k))
+      (both-summaries, (_, _, o, few, holds-packs e s names values k))
 
   module _ (r : JoinReply) where
     pub joined-differ : (a b : ℕ) → t ≡ step.Mismatch a b → (r .answer ≡ Mismatch) × (r .summary ≡ zeros) → JoinSays f left right r
     unfolding outcome
-    joined-differ a b d h = join-answer f left right r Mismatch h (both, (a, b, rw d at joined-limit), refl)
+    joined-differ a b d h = join-answer f left right r Mismatch h (both-summaries, (a, b, rw d at joined-limit), refl)
 
     pub joined-deep : t ≡ step.TooDeep → (r .answer ≡ TooDeep) × (r .summary ≡ zeros) → JoinSays f left right r
     unfolding outcome
-    joined-deep d h = join-answer f left right r TooDeep h (both, rw d at joined-limit, refl)
+    joined-deep d h = join-answer f left right r TooDeep h (both-summaries, rw d at joined-limit, refl)
 
 pub ruleset join-turns = (states-few, schooled, joined-kept, needs)

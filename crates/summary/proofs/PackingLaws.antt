@@ -9,7 +9,7 @@ use Prim.Native.Nat.{ℕ, _+_, _-_, _≤_, _<_}
 use native.Mathlib.Decide.{decLt, decLe}
 use native.Mathlib.Omega.{arith}
 use lib.ListN.{length, getD, List·getD-eq-default}
-use borrow.Author.Tests.{lt-ltb, le-ltb, le-leb, lt-leb, ltb-true, eqb-true}
+use borrow.Author.Tests.{lt-ltb, le-ltb, le-leb, lt-leb, ltb-true, eqb-true, not-true, not-false}
 use Rattle.words.specs.Reduced.{Stack}
 use Rattle.hedge.specs.Relation.{Within}
 use Rattle.hedge.specs.Operations.{full}
@@ -18,7 +18,7 @@ use Rattle.stack.specs.Held.{stackOf}
 use Rattle.stack.specs.Steps.{Holds}
 use Rattle.summary.specs.declared.Summary.{Summary}
 use Rattle.summary.specs.Packing.{count, form, last, Packs, IsSummary, every, nameFits, valueFits, Small}
-use Rattle.summary.proofs.FitLaws.{every-in, every-out, not-true, not-false}
+use Rattle.summary.proofs.FitLaws.{every-in, every-out}
 
 -- places behind the first n, and behind an array's end
 zero-behind : (n m : ℕ) (xs : List ℕ) → length xs ≡ m → ((k : ℕ) → n ≤ k → k < m → getD xs k 0 ≡ 0)

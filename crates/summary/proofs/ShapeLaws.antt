@@ -7,6 +7,7 @@ use mathlib.Core.Logic.{_↔_}
 use Prim.Native.Nat.{ℕ, _+_, _*_, _≤_}
 use native.Mathlib.Nat.{lt-of-lt-of-le}
 use native.Mathlib.Omega.{arith}
+use borrow.Author.Tests.{not-true, not-false}
 use Rattle.words.specs.Binoid.{Laws}
 use Rattle.hedge.specs.Schema.{RulesBelow, EndsBelow}
 use Rattle.hedge.specs.Operations.{unit}
@@ -23,7 +24,6 @@ use Rattle.summary.specs.declared.Summary.{Summary}
 use Rattle.summary.specs.Packing.{IsSummary}
 use Rattle.summary.specs.Fragments.{binoidOf}
 use Rattle.summary.specs.Joins.{SummaryUnder}
-use Rattle.summary.proofs.FitLaws.{not-true, not-false}
 
 -- the laws of a sound file's binoid
 abbrev pub lawsOf : (f : List ℕ) → IsSound f → Laws (binoidOf f)

@@ -60,12 +60,6 @@ pub enum DepthReply {
     NoSummary,
 }
 
-fn wide(x: u8) -> usize
-    ensures { λ r. ⌜ r ≡ x ⌝ }
-{
-    x as usize
-}
-
 // The summary of a refusal.
 fn zeros() -> Summary
     ensures { λ r. ⌜ r ≡ zeros ⌝ }
@@ -96,7 +90,7 @@ pub fn summarise(file: &[u8], shape: template::Shape, bytes: &[u8]) -> FragmentR
 {
     let schema = template::schema_rules(file, shape.templates, shape.schema);
     let endings = template::ending_states(file, shape.templates, shape.schema, shape.endings);
-    let states = wide(shape.states);
+    let states = words::wide(shape.states);
     let empty = hedge::unit(states);
     let mut names = [0u8; 16];
     let mut values = [0u64; 17];
@@ -225,7 +219,7 @@ fn join_summaries(file: &[u8], shape: template::Shape, left: Summary, right: Sum
 {
     let schema = template::schema_rules(file, shape.templates, shape.schema);
     let endings = template::ending_states(file, shape.templates, shape.schema, shape.endings);
-    let states = wide(shape.states);
+    let states = words::wide(shape.states);
     let empty = hedge::unit(states);
     let mut names = left.names;
     let mut values = left.relations;
@@ -269,10 +263,10 @@ pub fn join(file: &[u8], left: Summary, right: Summary) -> JoinReply
     match r {
         template::Reading::Bad(p) => join_refused(JoinAnswer::BadFile(p)),
         template::Reading::Sound(shape) => {
-            if !is_summary(left, shape.names, wide(shape.states)) {
+            if !is_summary(left, shape.names, words::wide(shape.states)) {
                 return join_refused(JoinAnswer::NoSummary);
             }
-            if !is_summary(right, shape.names, wide(shape.states)) {
+            if !is_summary(right, shape.names, words::wide(shape.states)) {
                 return join_refused(JoinAnswer::NoSummary);
             }
             join_summaries(file, shape, left, right)
@@ -296,7 +290,7 @@ pub fn net_depth(file: &[u8], s: Summary) -> DepthReply
     match r {
         template::Reading::Bad(p) => DepthReply::BadFile(p),
         template::Reading::Sound(shape) => {
-            if !is_summary(s, shape.names, wide(shape.states)) {
+            if !is_summary(s, shape.names, words::wide(shape.states)) {
                 return DepthReply::NoSummary;
             }
             DepthReply::Net(difference(s.starts, s.ends))

@@ -15,9 +15,13 @@ use Rattle.template.specs.Order.{firstFault, test, fieldTests, width, pr
 use Rattle.template.specs.declared.Fault.the-variants.{Nowhere}
 use Rattle.template.specs.declared.Body.{Body}
 use Rattle.template.specs.declared.Body.the-variants.{Templates, Schema, Endings}
-use Rattle.template.proofs.SoundLaws.{SoundFile, AllHold, nowhere-holds, first-nowhere, first-append-nowhere}
-use Rattle.template.proofs.ListLaws.{part-entry, rules-fit, schema-rules-fit}
-use Rattle.template.proofs.AscendingLaws.{Ascending}
+use Rattle.template.proofs.OrderLaws.{TestsHold, nowhere-holds, first-nowhere, first-append-nowhere}
+use Rattle.template.proofs.SoundLaws.{SoundFile}
+use Rattle.template.proofs.ListLaws.{entry, part-entry, rules-fit, schema-rules-fit}
+
+-- n entries of the same width, each before the next
+abbrev pub EntriesAscend : ℕ → ℕ → List ℕ → Type 0
+EntriesAscend wide n l = (i : ℕ) → suc i < n → precedes (entry wide l i) (entry wide l (suc i)) ≡ true
 
 -- every entry passes its tests
 body-entry : (b : Body) (A N Q : ℕ) (f : List ℕ) (first at n i : ℕ) → firstFault (bodyTests b A N Q f first at n) ≡ Nowhere → i < n
@@ -58,39 +62,39 @@ ascends-precedes wide f first i w e =
     let before : first + wide * suc i - wide ≡ first + wide * i = omega arith in
     rw (later, before) at e
 
-width-positive : (b : Body) → 0 < width b
+entry-wide : (b : Body) → 0 < width b
 unfolding width
-width-positive Templates = omega arith
-width-positive Schema = omega arith
-width-positive Endings = omega arith
+entry-wide Templates = omega arith
+entry-wide Schema = omega arith
+entry-wide Endings = omega arith
 
 -- the entries of a body of the file
 module _ (b : Body) (f : List ℕ) (first n : ℕ) (e : firstFault (body b f first n) ≡ Nowhere) where
-  pub fields-hold : (i : ℕ) → i < n → AllHold (fieldTests b (names f) (nonterminals f) (states f) f (first + width b * i))
+  pub fields-hold : (i : ℕ) → i < n → TestsHold (fieldTests b (names f) (nonterminals f) (states f) f (first + width b * i))
   fields-hold i h =
       nowhere-holds (fieldTests b (names f) (nonterminals f) (states f) f (first + width b * i))
       (body-fields b (names f) (nonterminals f) (states f) f first n e i h)
 
-  pub body-ascending : first + width b * n ≤ length f → Ascending (width b) n (partOf f first (width b * n))
+  pub body-ascending : first + width b * n ≤ length f → EntriesAscend (width b) n (partOf f first (width b * n))
   body-ascending h i k =
       let this : width b * suc i ≤ width b * n = mul-le-mul-left (width b) (omega arith) in
       let next : width b * suc (suc i) ≤ width b * n = mul-le-mul-left (width b) k in
       rw (part-entry f first (width b * n) (width b) i h this, part-entry f first (width b * n) (width b) (suc i) h next)
-      (ascends-precedes (width b) f first i (width-positive b)
+      (ascends-precedes (width b) f first i (entry-wide b)
       (body-ascends b (names f) (nonterminals f) (states f) f first n e (suc i) k))
 
 -- the three lists of a sound file
 module _ (f : List ℕ) (s : SoundFile f) where
-  pub rules-ascending : Ascending 4 (ruleCount f) (templateRules f)
+  pub rules-ascending : EntriesAscend 4 (ruleCount f) (templateRules f)
   unfolding width
   rules-ascending = body-ascending Templates f 16 (ruleCount f) (s .rules-pass) (rules-fit f s)
 
-  pub schema-rules-ascending : Ascending 4 (schemaCount f) (schemaRules f)
+  pub schema-rules-ascending : EntriesAscend 4 (schemaCount f) (schemaRules f)
   unfolding width
   schema-rules-ascending = body-ascending Schema f (schemaStart f) (schemaCount f) (s .schema-rules-pass) (schema-rules-fit f s)
 
-  pub endings-ascending : Ascending 1 (endingCount f) (endingStates f)
+  pub endings-ascending : EntriesAscend 1 (endingCount f) (endingStates f)
   unfolding width
   endings-ascending =
-      subst (λ (len : ℕ). Ascending 1 (endingCount f) (partOf f (endingStart f) len)) (one-mul (endingCount f))
+      subst (λ (len : ℕ). EntriesAscend 1 (endingCount f) (partOf f (endingStart f) len)) (one-mul (endingCount f))
       (body-ascending Endings f (endingStart f) (endingCount f) (s .endings-pass) (omega arith))

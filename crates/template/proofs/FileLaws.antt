@@ -13,18 +13,18 @@ use Rattle.template.specs.declared.Body.{Body}
 use Rattle.template.specs.declared.Body.the-variants.{Templates, Schema, Endings}
 use Rattle.template.specs.declared.Shape.{Shape}
 use Rattle.template.specs.declared.Reading.the-variants.{Sound, Bad}
-use Rattle.template.proofs.OrderLaws.{first-holds}
+use Rattle.template.proofs.OrderLaws.{nowhere-holds}
 use Rattle.template.proofs.BodyLaws.{entriesOf}
 
 -- the length
 
 pub head-length : (f : List ℕ) → firstFault (headTests f) ≡ Nowhere → 16 ≤ length f
 unfolding headTests
-head-length f e = leb-true 16 (length f) (first-holds (headTests f) e .0)
+head-length f e = leb-true 16 (length f) (nowhere-holds (headTests f) e .0)
 
 pub contents-length : (f : List ℕ) → firstFault (contentsTests f) ≡ Nowhere → length f ≡ bodiesEnd f
 unfolding contentsTests
-contents-length f e = eqb-true (length f) (bodiesEnd f) (first-holds (contentsTests f) e .1 .1 .1 .1 .1 .1 .0)
+contents-length f e = eqb-true (length f) (bodiesEnd f) (nowhere-holds (contentsTests f) e .1 .1 .1 .1 .1 .1 .0)
 
 -- the bodies, by the file's own numbers
 
@@ -44,10 +44,10 @@ body-of b f made shape start size = rw (← size, ← start) (rw shape at made)
 
 -- the verdict
 
-pub reading-bad : (f : List ℕ) {p : ℕ} → At p ≡ firstFault (tests f) → Bad p ≡ reading f
+pub answers-bad : (f : List ℕ) {p : ℕ} → At p ≡ firstFault (tests f) → Bad p ≡ reading f
 unfolding reading
-reading-bad f fault = rw (← fault)
+answers-bad f fault = rw (← fault)
 
-pub reading-sound : (f : List ℕ) {s : Shape} → s ≡ shapeOf f → Nowhere ≡ firstFault (tests f) → Sound s ≡ reading f
+pub answers-sound : (f : List ℕ) {s : Shape} → s ≡ shapeOf f → Nowhere ≡ firstFault (tests f) → Sound s ≡ reading f
 unfolding reading
-reading-sound f shape none = rw (← none, shape)
+answers-sound f shape none = rw (← none, shape)

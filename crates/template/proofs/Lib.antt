@@ -5,6 +5,5 @@ pub mod FileLaws
 pub mod PartLaws
 pub mod SoundLaws
 pub mod ListLaws
-pub mod AscendingLaws
 pub mod EntryLaws
 pub mod GrammarLaws

@@ -1,10 +1,9 @@
--- The first fault of a list of tests: of two lists after each other, of a list without a fault, and of a chain of single tests.
--- By cases on the fault that is there already, or by induction on the tests that come first. Assumes nothing.
-use mathlib.Core.Path.{_≡_, refl, _∙_}
-use mathlib.Core.Bool.{Bool, true, false, _||_}
+-- The first fault of a list of tests: of two lists after each other, of a list without a fault (all its tests hold), and of a chain of
+-- single tests. By cases on the fault that is there already, or by induction on the tests that come first. Assumes nothing.
+use mathlib.Core.Path.{_≡_, refl, sym, _∙_}
+use mathlib.Core.Bool.{Bool, true, false}
 use mathlib.Core.List.{List, [], _∷_, _++_}
 use Prim.Native.Nat.{ℕ}
-use native.Mathlib.Omega.{arith}
 use Rattle.template.specs.Order.{Test, test, unless, firstFault, orThen}
 use Rattle.template.specs.declared.Fault.{Fault}
 use Rattle.template.specs.declared.Fault.the-variants.{Nowhere, At}
@@ -49,19 +48,33 @@ module _ (ts us : List Test) {e : Fault} (first : e ≡ firstFault ts) where
 
 -- a list without a fault: every test holds
 
-abbrev pub Hold : List Test → Type 0
-Hold [] = Unit {0}
-Hold (t ∷ ts) = (t .holds ≡ true) × Hold ts
+abbrev pub TestsHold : List Test → Type 0
+TestsHold [] = Unit {0}
+TestsHold (t ∷ ts) = (t .holds ≡ true) × TestsHold ts
 
-pub first-holds : (ts : List Test) → firstFault ts ≡ Nowhere → Hold ts
+unless-nowhere : (b : Bool) (p : ℕ) (g : Fault) → unless b (At p) g ≡ Nowhere → (b ≡ true) × (g ≡ Nowhere)
+unless-nowhere true p g e = (refl, e)
+unless-nowhere false p g e = (cc, cc)
+
+pub first-nowhere : (t : Test) (ts : List Test) → firstFault (t ∷ ts) ≡ Nowhere → (t .holds ≡ true) × (firstFault ts ≡ Nowhere)
 unfolding firstFault
-first-holds [] e = tt
-first-holds (t ∷ ts) e = by-value (t .holds) (first-holds ts) e
-  where
-    by-value : (b : Bool) → (firstFault ts ≡ Nowhere → Hold ts) → unless b (At (t .place)) (firstFault ts) ≡ Nowhere
-        → (b ≡ true) × Hold ts
-    by-value true others e = (refl, others e)
-    by-value false others e = absurd (let z : _≡_ {A = ℕ} 0 1 = cc in omega arith)
+first-nowhere t ts e = unless-nowhere (t .holds) (t .place) (firstFault ts) e
+
+pub nowhere-holds : (ts : List Test) → firstFault ts ≡ Nowhere → TestsHold ts
+nowhere-holds [] e = tt
+nowhere-holds (t ∷ ts) e = let h = first-nowhere t ts e in (h .0, nowhere-holds ts (h .1))
+
+-- two lists: neither has a fault exactly where the one after the other has none
+
+then-both : (f g : Fault) → orThen f g ≡ Nowhere → (f ≡ Nowhere) × (g ≡ Nowhere)
+then-both Nowhere g e = (refl, e)
+then-both (At p) g e = (cc, cc)
+
+pub first-append-nowhere : (ts us : List Test) → firstFault (ts ++ us) ≡ Nowhere → (firstFault ts ≡ Nowhere) × (firstFault us ≡ Nowhere)
+first-append-nowhere ts us e = then-both (firstFault ts) (firstFault us) (sym (first-append ts us) ∙ e)
+
+pub nowhere-append : (ts us : List Test) → firstFault ts ≡ Nowhere → firstFault us ≡ Nowhere → firstFault (ts ++ us) ≡ Nowhere
+nowhere-append ts us e d = rw (first-append ts us, e, d)
 
 -- a chain of single tests: the fault known after each is made from the one before and the test's value
 
@@ -78,9 +91,3 @@ chain-first (tested {b = b} {t = t} made holds rest) =
 
 pub first-chain : {g : Fault} {ts : List Test} → Chain g Nowhere ts → g ≡ firstFault ts
 first-chain chain = chain-first chain
-
--- alternatives, however they are grouped
-
-pub or-assoc : (a b c : Bool) → (a || b) || c ≡ a || (b || c)
-or-assoc true b c = refl
-or-assoc false b c = refl

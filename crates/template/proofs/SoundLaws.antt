@@ -1,9 +1,8 @@
--- Sound files. Where a list of tests has no fault, all of them hold (`nowhere-holds`), and two lists have none exactly where the one
--- after the other has none; these are inductions on the list. So what reading answers says which tests hold, and the record `SoundFile`
--- says it once in the file's own numbers: the tests of the head and the contents are read off one by one, and back. Assumes nothing.
+-- Sound files. What reading answers says that no test has a fault, so all of them hold; the record `SoundFile` says this once in the
+-- file's own numbers. The tests of the head and the contents are read off one by one, and back. Assumes nothing.
 use mathlib.Core.Path.{_≡_, refl}
-use mathlib.Core.Bool.{Bool, true, false, _&&_, _||_}
-use mathlib.Core.List.{List, [], _∷_, _++_}
+use mathlib.Core.Bool.{true}
+use mathlib.Core.List.{List, [], _++_}
 use Prim.Native.Nat.{ℕ, _≤_}
 use native.Mathlib.Omega.{arith}
 use lib.Dec.{leb}
@@ -11,48 +10,15 @@ use lib.ListN.{length}
 use borrow.Author.Tests.{leb-true, eqb-true, le-leb, eq-eqb}
 use Rattle.template.specs.Layout.{byteAt, halfAt, names, nonterminals, states, ruleCount, schemaCount, endingCount}
 use Rattle.template.specs.Layout.{schemaStart, endingStart, bodiesEnd}
-use Rattle.template.specs.Order.{Test, unless, firstFault, between}
+use Rattle.template.specs.Order.{firstFault, between}
 use Rattle.template.specs.Order.{headTests, contentsTests, body, bodies, tests, IsSound, shapeOf, verdict, reading}
 use Rattle.template.specs.declared.Fault.{Fault}
 use Rattle.template.specs.declared.Fault.the-variants.{Nowhere, At}
 use Rattle.template.specs.declared.Body.the-variants.{Templates, Schema, Endings}
-use Rattle.template.specs.declared.Reading.the-variants.{Sound, Bad}
+use Rattle.template.specs.declared.Reading.the-variants.{Sound}
 use Rattle.template.specs.declared.Shape.{Shape}
+use Rattle.template.proofs.OrderLaws.{nowhere-holds, first-append-nowhere, nowhere-append}
 use Rattle.hedge.proofs.TestLaws.{and-out}
-
--- tests that all hold
-abbrev pub AllHold : List Test → Type 0
-AllHold [] = Unit {0}
-AllHold (t ∷ ts) = (t .holds ≡ true) × AllHold ts
-
-unless-nowhere : (b : Bool) (p : ℕ) (g : Fault) → unless b (At p) g ≡ Nowhere → (b ≡ true) × (g ≡ Nowhere)
-unless-nowhere true p g e = (refl, e)
-unless-nowhere false p g e = (cc, cc)
-
-pub first-nowhere : (t : Test) (ts : List Test) → firstFault (t ∷ ts) ≡ Nowhere → (t .holds ≡ true) × (firstFault ts ≡ Nowhere)
-unfolding firstFault
-first-nowhere t ts e = unless-nowhere (t .holds) (t .place) (firstFault ts) e
-
-pub nowhere-first : (t : Test) (ts : List Test) → t .holds ≡ true → firstFault ts ≡ Nowhere → firstFault (t ∷ ts) ≡ Nowhere
-unfolding firstFault
-nowhere-first t ts h e = rw (h, e)
-
-pub nowhere-holds : (ts : List Test) → firstFault ts ≡ Nowhere → AllHold ts
-nowhere-holds [] e = tt
-nowhere-holds (t ∷ ts) e = let h = first-nowhere t ts e in (h .0, nowhere-holds ts (h .1))
-
--- one list after another
-pub first-append-nowhere : (ts us : List Test) → firstFault (ts ++ us) ≡ Nowhere → (firstFault ts ≡ Nowhere) × (firstFault us ≡ Nowhere)
-unfolding firstFault
-first-append-nowhere [] us e = (refl, e)
-first-append-nowhere (t ∷ ts) us e =
-    let h = first-nowhere t (ts ++ us) e in
-    let k = first-append-nowhere ts us (h .1) in
-    (nowhere-first t ts (h .0) (k .0), k .1)
-
-pub nowhere-append : (ts us : List Test) → firstFault ts ≡ Nowhere → firstFault us ≡ Nowhere → firstFault (ts ++ us) ≡ Nowhere
-nowhere-append [] us e d = d
-nowhere-append (t ∷ ts) us e d = let h = first-nowhere t ts e in nowhere-first t (ts ++ us) (h .0) (nowhere-append ts us (h .1) d)
 
 -- what reading answers
 
@@ -60,17 +26,9 @@ verdict-sound : (x : Fault) (z s : Shape) → verdict x z ≡ Sound s → (x ≡
 verdict-sound Nowhere z s e = (refl, cc)
 verdict-sound (At p) z s e = (cc, cc)
 
-verdict-bad : (x : Fault) (z : Shape) (p : ℕ) → verdict x z ≡ Bad p → x ≡ At p
-verdict-bad Nowhere z p e = cc
-verdict-bad (At q) z p e = cc
-
 pub reading-sound : (f : List ℕ) (s : Shape) → reading f ≡ Sound s → IsSound f × (s ≡ shapeOf f)
 unfolding reading
 reading-sound f s e = verdict-sound (firstFault (tests f)) (shapeOf f) s e
-
-pub reading-bad : (f : List ℕ) (p : ℕ) → reading f ≡ Bad p → firstFault (tests f) ≡ At p
-unfolding reading
-reading-bad f p e = verdict-bad (firstFault (tests f)) (shapeOf f) p e
 
 pub sound-reading : (f : List ℕ) → IsSound f → reading f ≡ Sound (shapeOf f)
 unfolding reading

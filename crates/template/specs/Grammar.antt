@@ -4,7 +4,7 @@
 use mathlib.Core.Path.{_≡_}
 use mathlib.Core.Bool.{Bool, true, false}
 use mathlib.Core.List.{List, [], _∷_, map}
-use Prim.Native.Nat.{ℕ, _+_, _/_, _-_, _<_}
+use Prim.Native.Nat.{ℕ, _/_, _-_, _<_}
 use lib.Dec.{ltb}
 use lib.ListN.{length, take}
 use Rattle.words.specs.Tags.{Tag, start, end}

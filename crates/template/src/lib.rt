@@ -35,12 +35,6 @@ pub enum Reading {
     Bad(usize),
 }
 
-fn wide(x: u8) -> usize
-    ensures { λ r. ⌜ (r ≡ x) × (r < 256) ⌝ }
-{
-    x as usize
-}
-
 fn wide_half(x: u16) -> usize
     ensures { λ r. ⌜ (r ≡ x) × (r < 65536) ⌝ }
 {
@@ -52,7 +46,7 @@ fn half(file: &[u8], at: usize) -> u16
     requires { ⌜ at + 1 < length (now file) ⌝ }
     ensures { λ r. ⌜ r ≡ halfAt (now (file .entry)) at ⌝ }
 {
-    (wide(file[at]) + 256 * wide(file[at + 1])) as u16
+    (words::wide(file[at]) + 256 * words::wide(file[at + 1])) as u16
 }
 
 // One test more in the order of reading: an earlier fault stays.
@@ -95,7 +89,7 @@ fn contents_fault(file: &[u8]) -> Fault
     requires { ⌜ 16 ≤ length (now file) ⌝ }
     ensures { λ r. ⌜ r ≡ firstFault (contentsTests (now (file .entry))) ⌝ }
 {
-    let states = wide(file[2]);
+    let states = words::wide(file[2]);
     let first = wide_half(half(file, 4));
     let rules = wide_half(half(file, 6));
     let second = wide_half(half(file, 8));
@@ -118,10 +112,10 @@ fn contents_fault(file: &[u8]) -> Fault
 fn is_symbol(names: u8, nonterminals: u8, byte: u8) -> bool
     ensures { λ r. ⌜ r ≡ isSymbol names nonterminals byte ⌝ }
 {
-    let b = wide(byte);
+    let b = words::wide(byte);
     (byte < names)
-        | ((32 <= b) & (b < 32 + wide(names)))
-        | ((64 <= b) & (b < 64 + wide(nonterminals)))
+        | ((32 <= b) & (b < 32 + words::wide(names)))
+        | ((64 <= b) & (b < 64 + words::wide(nonterminals)))
 }
 
 // A used place holds a symbol, an unused one 255.

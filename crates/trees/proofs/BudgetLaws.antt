@@ -14,6 +14,17 @@ use Rattle.trees.specs.Verdict.{Decision, met, passed, used, Quiet, Went
 use Rattle.trees.proofs.DistinctLaws.{many}
 use Rattle.trees.proofs.EventLaws.{image-later}
 
+-- decisions that differ
+
+pub met-not-passed : (q k r : ℕ) → met q k ≡ passed r → ⊥
+met-not-passed q k r e = let z : _≡_ {A = ℕ} 0 1 = cc e in omega (arith, z)
+
+pub met-not-used : (q k : ℕ) → met q k ≡ used → ⊥
+met-not-used q k e = let z : _≡_ {A = ℕ} 0 1 = cc e in omega (arith, z)
+
+pub passed-not-used : (r : ℕ) → passed r ≡ used → ⊥
+passed-not-used r e = let z : _≡_ {A = ℕ} 0 1 = cc e in omega (arith, z)
+
 module _ (Event : ℕ → ℕ → Type 0) (New : ℕ → Type 0) where
   -- of two rounds up to which the rounds went on and at which they did not, neither is earlier
   not-earlier : {q r : ℕ} → 1 ≤ q → (Quiet Event New q × New q → ⊥) → WentOn Event New r → q < r → ⊥
@@ -70,9 +81,6 @@ module _ (Event : ℕ → ℕ → Type 0) (New : ℕ → Type 0) where
   decides-larger (passed r) (h, l, w, quiet, none) n b = (h, omega (arith, l, b), w, quiet, none)
   decides-larger used went n b = absurd (n refl)
 
-  pub used-smaller : {budget less : ℕ} → Decides Event New budget used → less ≤ budget → Decides Event New less used
-  used-smaller went h j l k = went j l (omega (arith, h, k))
-
 -- one round more than there may be images
 
 module _ (Rule : ℕ → List Symbol → Type 0) (B : Binoid) (Valid : List Tag → Type 0) (most cap : ℕ) where
@@ -88,7 +96,3 @@ module _ (Rule : ℕ → List Symbol → Type 0) (B : Binoid) (Valid : List Tag 
         many = rw (images .count) (omega arith);
       } in
       went (suc cap) (omega arith) (omega arith) .0 4 crowded
-
-  pub decided : {budget : ℕ} → cap < budget
-      → Decides (Event Rule B Valid most cap) (New Rule B Valid most cap) budget used → ⊥
-  decided h went = decided-first (used-smaller (Event Rule B Valid most cap) (New Rule B Valid most cap) went (omega (arith, h)))

@@ -1,6 +1,6 @@
 -- Lists in which no element stands twice (specs/Events.antt). Where each element of a distinct list stands in another, the other is at
--- least as long: each takes a place of its own. And if it is no longer, it has no other elements. In a family that only grows, where each
--- of n steps brings something new, n distinct things stand at step n. By induction. Assumes nothing.
+-- least as long: each takes a place of its own. In a family that only grows, where each of n steps brings something new, n distinct
+-- things stand at step n. By induction. Assumes nothing.
 use mathlib.Core.Path.{_≡_, refl, sym, ap, _∙_}
 use mathlib.Core.List.{List, [], _∷_, List·Memᴰ, List·Memᴰ·head, List·Memᴰ·tail, List·Memᴰ·not-nil, List·Memᴰ·cases-cons, Memᴰ·cast}
 use mathlib.Core.Logic.{_⊎_, inl, inr, ⊎-elim}
@@ -30,15 +30,6 @@ module _ {A : Type 0} where
       let (k, e, g) = without-one (f x (List·Memᴰ·head refl)) in
       let h : length l ≤ length k = distinct-length d (rest-left n (λ y p. g y (f y (List·Memᴰ·tail p)))) in
       omega (arith, e, h)
-
-  pub distinct-all : {l m : List A} → Distinct l → ((x : A) → List·Memᴰ x l → List·Memᴰ x m) → length m ≤ length l
-      → (x : A) → List·Memᴰ x m → List·Memᴰ x l
-  distinct-all distinct-none f h y (List·Memᴰ·head e) = absurd (omega (arith, h))
-  distinct-all distinct-none f h y (List·Memᴰ·tail d) = absurd (omega (arith, h))
-  distinct-all (distinct-more {x = x} {l = l} n d) f h y p =
-      let (k, e, g) = without-one (f x (List·Memᴰ·head refl)) in
-      let within = distinct-all d (rest-left n (λ z q. g z (f z (List·Memᴰ·tail q)))) (omega (arith, e, h)) in
-      ⊎-elim (λ s. List·Memᴰ·head s) (λ q. List·Memᴰ·tail (within y q)) (g y p)
 
 -- a growing family
 

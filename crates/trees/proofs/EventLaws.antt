@@ -1,5 +1,5 @@
--- Images and events by rounds (specs/Events.antt). `Under r` is `Within r` of a useful nonterminal: so no string stands under one at round
--- 0, and what stands under one at a round does so at every later one; images and events follow it. Where a round has neither a
+-- Images and events by rounds (specs/Events.antt). `Under r` is `YieldsWithin r` of a useful nonterminal: so no string stands under one at
+-- round 0, and what stands under one at a round does so at every later one; images and events follow it. Where a round has neither a
 -- mismatched string nor one with too many tags, each string under a useful nonterminal has its image. Assumes nothing.
 use mathlib.Core.Path.{refl}
 use mathlib.Core.List.{List, [], _∷_, List·Memᴰ, List·Memᴰ·head}
@@ -11,29 +11,28 @@ use native.Mathlib.Omega.{arith}
 use Rattle.words.specs.Tags.{Tag}
 use Rattle.words.specs.Balance.{Mismatched}
 use Rattle.words.specs.Binoid.{Binoid, Laws}
-use Rattle.words.specs.Reduced.{Stack, EndsFirst, tags, Reduced}
-use Rattle.words.proofs.ReducedLaws.{GoodStack, reduced-ends-first, reduced-good}
+use Rattle.words.specs.Reduced.{Stack, tags, Reduced}
 use Rattle.words.proofs.MismatchLaws.{one-of}
 use Rattle.template.specs.Grammar.{Symbol, nonterminal}
 use Rattle.trees.specs.Trees.{Useful}
 use Rattle.trees.specs.Events.{Pair, Under, Image, Mismatch, InvalidPage, TooDeep, Crowded, Event}
-use Rattle.trees.proofs.HeightLaws.{Within, yields-within, within-yields, within-none, within-root}
+use Rattle.trees.proofs.HeightLaws.{YieldsWithin, yields-within, within-yields, within-none, within-root}
 use Rattle.trees.proofs.MarkLaws.{AllNonterminals}
 use Rattle.trees.proofs.UsefulLaws.{rule-useful}
 
 module _ {Rule : ℕ → List Symbol → Type 0} {B : Binoid} {Valid : List Tag → Type 0} {most cap : ℕ} where
   -- by the bound on the height
 
-  pub under-within : {r x : ℕ} {w : List Tag} → Under Rule B Valid most cap r x w → Within Rule r (nonterminal x ∷ []) w
+  pub under-within : {r x : ℕ} {w : List Tag} → Under Rule B Valid most cap r x w → YieldsWithin Rule r (nonterminal x ∷ []) w
   under-within {r} u = yields-within r (u .low) (u .tree)
 
-  pub within-under : {r x : ℕ} {w : List Tag} → Useful Rule x → Within Rule r (nonterminal x ∷ []) w
+  pub within-under : {r x : ℕ} {w : List Tag} → Useful Rule x → YieldsWithin Rule r (nonterminal x ∷ []) w
       → Under Rule B Valid most cap r x w
   within-under h p = let (n, l, t) = within-yields p in record { useful = h; height = n; tree = t; low = l }
 
   -- the rule at the root of a tree under a useful nonterminal, over lower trees under useful ones
   pub under-root : {r x : ℕ} {w : List Tag} → Under Rule B Valid most cap (suc r) x w
-      → (rhs : List Symbol) × Rule x rhs × Within Rule r rhs w × AllNonterminals (Useful Rule) rhs
+      → (rhs : List Symbol) × Rule x rhs × YieldsWithin Rule r rhs w × AllNonterminals (Useful Rule) rhs
   under-root {w = w} u =
       let (rhs, rule, p) = within-root (under-within u) in
       let (n, h, y) = within-yields p in
@@ -91,21 +90,9 @@ module _ {Rule : ℕ → List Symbol → Type 0} {B : Binoid} {Valid : List Tag 
       deep = d .deep;
     }
 
-    pub crowded-later : Crowded Rule B Valid most cap q → Crowded Rule B Valid most cap r
-    crowded-later c = record {
-      images = c .images;
-      distinct = c .distinct;
-      are-images = λ p m. image-later (c .are-images p m);
-      many = c .many;
-    }
-
   -- with the binoid's laws
 
   module _ (L : Laws B) where
-    pub image-good : {r : ℕ} {p : Pair (B .H)} → Image Rule B Valid most cap r p
-        → EndsFirst (p .form) × GoodStack (L .Good) (p .form) × L .Good (p .last)
-    image-good i = let (s, c) = reduced-good B L (i .reduced) in (reduced-ends-first B (i .reduced), s, c)
-
     -- a string without mismatch and with few tags has its image
     pub under-image : {r x : ℕ} {w : List Tag} → (Mismatch Rule B Valid most cap r → ⊥) → (TooDeep Rule B Valid most cap r → ⊥)
         → Under Rule B Valid most cap r x w

@@ -105,9 +105,5 @@ module _ (Rule : ℕ → List Symbol → Type 0) where
     marked-reached z f (rule-reached {x = x} {y = y} l r c rule p) =
         all-place M l r y (f x (l ++ (nonterminal y ∷ r)) (marked-reached z f c) rule p)
 
-    pub mark-reached : ((y : ℕ) → M y → Reached Rule y) → {x : ℕ} {rhs : List Symbol} → M x → Rule x rhs → Productive Rule rhs
-        → AllNonterminals (Reached Rule) rhs
-    mark-reached f {x} m rule p = rule-all-reached (f x m) rule p
-
     pub marks-reached : M 0 → ClosedDown M → ((y : ℕ) → M y → Reached Rule y) → (x : ℕ) → M x ↔ Reached Rule x
     marks-reached z f g x = (g x, λ c. marked-reached z f c)

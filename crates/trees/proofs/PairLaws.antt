@@ -10,29 +10,16 @@ use lib.ListN.{length}
 use Rattle.words.specs.Tags.{Tag, start, end}
 use Rattle.words.specs.Binoid.{Binoid, Laws}
 use Rattle.words.specs.Reduced.{Stack, bottom, push, EndsFirst}
-use Rattle.words.specs.Reader.{Outcome, reduced, differ, nothing-read, then-tag, then-value, join}
+use Rattle.words.specs.Reader.{Outcome, reduced, nothing-read, then-tag, join}
 use Rattle.words.proofs.ReducedLaws.{GoodStack}
-use Rattle.words.proofs.StepLaws.{GoodOutcome, value-reduced, value-differ, good-tag}
-use Rattle.words.proofs.JoinLaws.{join-bottom, join-push, join-self}
+use Rattle.words.proofs.StepLaws.{GoodOutcome}
+use Rattle.words.proofs.JoinLaws.{join-unit, join-tag, join-self}
 use Rattle.template.specs.Grammar.{Symbol, tag, nonterminal}
 use Rattle.trees.specs.Trees.{Useful}
 use Rattle.trees.specs.Events.{Pair}
 use Rattle.trees.specs.Results.{Joins, joins-nothing, joins-tag, joins-image, SymbolForm, FormAt, Result}
 
 module _ {B : Binoid} (L : Laws B) where
-  -- the unit and a tag's form, joined
-
-  pub value-unit : (o : Outcome (B .H)) → GoodOutcome (L .Good) o → then-value B o (B .unit) ≡ o
-  value-unit (reduced s c) (gs, gc) = rw (value-reduced, L .unit-right gc)
-  value-unit (differ a b) g = value-differ B a b (B .unit)
-
-  pub join-unit : (o : Outcome (B .H)) → GoodOutcome (L .Good) o → join B o bottom (B .unit) ≡ o
-  join-unit o g = join-bottom B o (B .unit) ∙ value-unit o g
-
-  pub join-tag : (o : Outcome (B .H)) (t : Tag) → GoodOutcome (L .Good) o
-      → join B o (push bottom (B .unit) t) (B .unit) ≡ then-tag B o t
-  join-tag o t g = rw (join-push, join-unit o g) (value-unit (then-tag B o t) (good-tag B L o t g))
-
   -- end tags first, and good values
   abbrev pub GoodForm : Stack (B .H) → B .H → Type 0
   GoodForm s c = EndsFirst s × GoodStack (L .Good) s × L .Good c
@@ -50,13 +37,13 @@ module _ {B : Binoid} (L : Laws B) where
       where
         there : (a : Symbol) → Joins B I o (a ∷ ss) q
             → (s : Stack (B .H)) × (c : B .H) × SymbolForm B I a s c × Joins B I (join B o s c) ss q
-        there (tag t) (joins-tag j) = (push bottom (B .unit) t, B .unit, (refl, refl), rw (join-tag o t g) j)
+        there (tag t) (joins-tag j) = (push bottom (B .unit) t, B .unit, (refl, refl), rw (join-tag B L o t g) j)
         there (nonterminal x) (joins-image {s = s} {c = c} i j) = (s, c, i, j)
 
         back : (a : Symbol) → ((s : Stack (B .H)) × (c : B .H) × SymbolForm B I a s c × Joins B I (join B o s c) ss q)
             → Joins B I o (a ∷ ss) q
         back (tag t) (s, c, (e, f), j) =
-            let k : Joins B I (then-tag B o t) ss q = rw (e, f, join-tag o t g) at j in joins-tag k
+            let k : Joins B I (then-tag B o t) ss q = rw (e, f, join-tag B L o t g) at j in joins-tag k
         back (nonterminal x) (s, c, i, j) = joins-image i j
 
     joins-end : (o q : Outcome (B .H)) → Joins B I o [] q ↔ (o ≡ q)
@@ -69,8 +56,8 @@ module _ {B : Binoid} (L : Laws B) where
     pub joins-place : (ss : List Symbol) → length ss ≤ 1 → (o q : Outcome (B .H)) → GoodOutcome (L .Good) o
         → Joins B I o ss q ↔ ((s : Stack (B .H)) × (c : B .H) × FormAt B I ss 0 s c × (join B o s c ≡ q))
     joins-place [] h o q g = (
-      λ j. (bottom, B .unit, (refl, refl), join-unit o g ∙ joins-end o q .0 j),
-      λ (s, c, (e, f), j). joins-end o q .1 (sym (join-unit o g) ∙ (rw (e, f) at j)),
+      λ j. (bottom, B .unit, (refl, refl), join-unit B L o g ∙ joins-end o q .0 j),
+      λ (s, c, (e, f), j). joins-end o q .1 (sym (join-unit B L o g) ∙ (rw (e, f) at j)),
     )
     joins-place (a ∷ []) h o q g = (
       λ j. let (s, c, f, k) = joins-symbol a [] o q g .0 j in (s, c, f, joins-end (join B o s c) q .0 k),

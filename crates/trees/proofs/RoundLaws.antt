@@ -8,20 +8,20 @@ use mathlib.Core.List.{List, [], _∷_, _++_}
 use mathlib.Core.Logic.{_↔_}
 use Prim.Native.Nat.{ℕ, suc, _≤_, _<_}
 use Rattle.words.specs.Tags.{Tag}
-use Rattle.words.specs.Balance.{Balanced, Mismatched}
+use Rattle.words.specs.Balance.{Balanced}
 use Rattle.words.specs.Binoid.{Binoid, Laws}
 use Rattle.words.specs.Reduced.{Stack, tags, Reduced}
 use Rattle.words.specs.Reader.{Outcome, reduced, differ, nothing-read, then-tag, run, read, join}
-use Rattle.words.proofs.ReducedLaws.{reduced-good, balanced-iff}
+use Rattle.words.proofs.ReducedLaws.{reduced-good}
 use Rattle.words.proofs.StepLaws.{GoodOutcome, good-tag}
 use Rattle.words.proofs.ReadLaws.{Told, run-nil, run-cons, run-append, told-read, read-reduced}
-use Rattle.words.proofs.MismatchLaws.{never-both, read-is-reduced, read-is-differ}
+use Rattle.words.proofs.MismatchLaws.{balanced-not-mismatched, read-is-reduced, read-is-differ}
 use Rattle.words.proofs.JoinLaws.{good-join, run-join}
 use Rattle.template.specs.Grammar.{Symbol}
 use Rattle.trees.specs.Trees.{Useful}
 use Rattle.trees.specs.Events.{Pair, Under, Image, Mismatch, InvalidPage, TooDeep}
 use Rattle.trees.specs.Results.{Joins, joins-nothing, joins-tag, joins-image, Result}
-use Rattle.trees.proofs.HeightLaws.{Within, within-nothing, within-tag, within-tree, within-append, within-node}
+use Rattle.trees.proofs.HeightLaws.{YieldsWithin, within-nothing, within-tag, within-tree, within-append, within-node}
 use Rattle.trees.proofs.MarkLaws.{AllNonterminals}
 use Rattle.trees.proofs.EventLaws.{under-within, within-under, under-root, under-image}
 
@@ -29,9 +29,6 @@ use Rattle.trees.proofs.EventLaws.{under-within, within-under, under-ro
 abbrev pub InvalidOutcome : {H : Type 0} → (Stack H → H → Type 0) → Outcome H → Type 0
 InvalidOutcome ValidForm (reduced s c) = ValidForm s c → ⊥
 InvalidOutcome ValidForm (differ a b) = Unit {0}
-
-pub balanced-not-mismatched : (B : Binoid) → Laws B → {w : List Tag} → Balanced w → Mismatched w → ⊥
-balanced-not-mismatched B L b m = never-both B L (balanced-iff B .0 b .1) m
 
 -- results depend on the images alone
 
@@ -53,7 +50,7 @@ module _ {Rule : ℕ → List Symbol → Type 0} {B : Binoid} {Valid : List Tag 
   -- what images join to is read from some string
 
   joins-string : {r : ℕ} {ss : List Symbol} {o q : Outcome (B .H)} → GoodOutcome (L .Good) o
-      → Joins B (Image Rule B Valid most cap r) o ss q → (w : List Tag) × Within Rule r ss w × (run B o w ≡ q)
+      → Joins B (Image Rule B Valid most cap r) o ss q → (w : List Tag) × YieldsWithin Rule r ss w × (run B o w ≡ q)
   joins-string {o = o} g joins-nothing = ([], within-nothing, run-nil B o)
   joins-string {o = o} g (joins-tag {t = t} j) =
       let (w, p, e) = joins-string (good-tag B L o t g) j in
@@ -73,7 +70,7 @@ module _ {Rule : ℕ → List Symbol → Type 0} {B : Binoid} {Valid : List Tag 
   -- a string is read as the images of its subtrees join, where they have images
 
   string-joins : {r : ℕ} → (Mismatch Rule B Valid most cap r → ⊥) → (TooDeep Rule B Valid most cap r → ⊥)
-      → {ss : List Symbol} {w : List Tag} → Within Rule r ss w → AllNonterminals (Useful Rule) ss
+      → {ss : List Symbol} {w : List Tag} → YieldsWithin Rule r ss w → AllNonterminals (Useful Rule) ss
       → (o : Outcome (B .H)) → GoodOutcome (L .Good) o → Joins B (Image Rule B Valid most cap r) o ss (run B o w)
   string-joins matched shallow within-nothing us o g = rw run-nil joins-nothing
   string-joins matched shallow (within-tag {t = t} p) us o g =

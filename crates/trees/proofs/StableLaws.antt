@@ -2,14 +2,12 @@
 -- round r + 1 has no mismatch, nothing too deep and no image that round r has not, then so has round r + 2, and each after it, by
 -- induction. As each tree has some height, each string of a useful nonterminal then has its image at round r. Assumes nothing.
 use mathlib.Core.List.{List}
-use Prim.Native.Nat.{ℕ, zero, suc, _+_, _≤_}
+use Prim.Native.Nat.{ℕ, zero, suc, _+_}
 use native.Mathlib.Nat.{zero-add, suc-add}
 use native.Mathlib.Omega.{arith}
 use Rattle.words.specs.Tags.{Tag}
-use Rattle.words.specs.Balance.{Mismatched}
 use Rattle.words.specs.Binoid.{Binoid, Laws}
-use Rattle.words.specs.Reduced.{Stack, tags, Reduced}
-use Rattle.words.proofs.MismatchLaws.{never-both}
+use Rattle.words.specs.Reduced.{Stack, Reduced}
 use Rattle.template.specs.Grammar.{Symbol}
 use Rattle.trees.specs.Trees.{Useful, Tree}
 use Rattle.trees.specs.Events.{Pair, Under, Image, Mismatch, TooDeep}
@@ -69,10 +67,3 @@ module _ {Rule : ℕ → List Symbol → Type 0} {B : Binoid} {Valid : List Tag 
       let u : Under Rule B Valid most cap n x w = record { useful = h; height = n; tree = t; low = omega arith } in
       let (s, c, d, i) = under-image L (mismatch-never n) (deep-never n) u in
       (s, c, d, image-old n (record { of = x; form = s; last = c }) i)
-
-  pub string-few : {x n : ℕ} {w : List Tag} → Useful Rule x → Tree Rule x w n
-      → (s : Stack (B .H)) × (c : B .H) × Reduced B w s c × (tags s ≤ most)
-  string-few h t = let (s, c, d, i) = string-image h t in (s, c, d, i .few)
-
-  pub string-matched : {x n : ℕ} {w : List Tag} → Useful Rule x → Tree Rule x w n → Mismatched w → ⊥
-  string-matched h t = let (s, c, d, i) = string-image h t in never-both B L d

@@ -1,6 +1,5 @@
 -- A round with a list of its images (specs/Events.antt), as a table holds them. More distinct images than there may be are event 4, and
--- where a list of at most that many holds all images there is no event 4, since distinct images take a place each. If the list holds
--- the images of the round before and no more of them, that round had them all. Assumes nothing.
+-- where a list of at most that many holds all images there is no event 4, since distinct images take a place each. Assumes nothing.
 use mathlib.Core.Path.{_≡_}
 use mathlib.Core.List.{List, _∷_, List·Memᴰ, List·Memᴰ·cases-cons}
 use mathlib.Core.Logic.{⊎-elim}
@@ -11,7 +10,7 @@ use Rattle.words.specs.Tags.{Tag}
 use Rattle.words.specs.Binoid.{Binoid}
 use Rattle.template.specs.Grammar.{Symbol}
 use Rattle.trees.specs.Events.{Pair, Distinct, distinct-more, Image, Crowded}
-use Rattle.trees.proofs.DistinctLaws.{distinct-length, distinct-all}
+use Rattle.trees.proofs.DistinctLaws.{distinct-length}
 
 module _ {Rule : ℕ → List Symbol → Type 0} {B : Binoid} {Valid : List Tag → Type 0} {most cap r : ℕ} where
   pub rows-crowded : (rows : List (Pair (B .H))) → Distinct rows
@@ -34,12 +33,3 @@ module _ {Rule : ℕ → List Symbol → Type 0} {B : Binoid} {Valid : List Tag 
       let k : length (c .images) ≤ length rows = distinct-length (c .distinct) (λ p m. f p (c .are-images p m)) in
       let l : cap < length (c .images) = c .many in
       omega (arith, h, k, l)
-
-module _ {Rule : ℕ → List Symbol → Type 0} {B : Binoid} {Valid : List Tag → Type 0} {most cap q r : ℕ} where
-  -- distinct images of an earlier round, as many as the list of all images of this one: no image is new
-  pub rows-old : (before rows : List (Pair (B .H))) → Distinct before
-      → ((p : Pair (B .H)) → List·Memᴰ p before → Image Rule B Valid most cap q p)
-      → ((p : Pair (B .H)) → List·Memᴰ p before → List·Memᴰ p rows)
-      → ((p : Pair (B .H)) → Image Rule B Valid most cap r p → List·Memᴰ p rows) → length rows ≤ length before
-      → (p : Pair (B .H)) → Image Rule B Valid most cap r p → Image Rule B Valid most cap q p
-  rows-old before rows d old kept all h p i = old p (distinct-all d kept h p (all p i))

@@ -14,10 +14,10 @@ use Rattle.words.proofs.BalanceLaws.{mismatched-factor}
 use Rattle.template.specs.Grammar.{Symbol}
 use Rattle.trees.specs.Trees.{Tree}
 use Rattle.trees.specs.Events.{Pair, Image, Mismatch, InvalidPage, New, Event}
-use Rattle.trees.specs.Verdict.{Quiet, Decides, passed}
+use Rattle.trees.specs.Verdict.{Quiet}
 use Rattle.trees.proofs.UsefulLaws.{start-useful, context}
 use Rattle.trees.proofs.EventLaws.{invalid-later}
-use Rattle.trees.proofs.RoundLaws.{balanced-not-mismatched}
+use Rattle.words.proofs.MismatchLaws.{balanced-not-mismatched}
 use Rattle.trees.proofs.StableLaws.{string-image}
 
 module _ (Rule : ℕ → List Symbol → Type 0) (B : Binoid) (Valid : List Tag → Type 0) (most cap : ℕ) where
@@ -34,15 +34,6 @@ module _ (Rule : ℕ → List Symbol → Type 0) (B : Binoid) (Valid : List Tag 
       let (n, t) = f (m .string) (m .under .height, m .under .tree) in
       let w : List Tag = l ++ (m .string ++ e) in
       (w, n, t, λ v. balanced-not-mismatched B L (valid-balanced w v) (mismatched-factor l e (m .mismatched)))
-
-  -- no new image, where it can be told whether one is new
-  pub no-new-old : {r : ℕ} → ((p : Pair (B .H)) → Dec (Image Rule B Valid most cap (pred r) p)) → (New Rule B Valid most cap r → ⊥)
-      → (p : Pair (B .H)) → Image Rule B Valid most cap r p → Image Rule B Valid most cap (pred r) p
-  no-new-old {r} decided none p i = from (decided p)
-    where
-      from : Dec (Image Rule B Valid most cap (pred r) p) → Image Rule B Valid most cap (pred r) p
-      from (yes j) = j
-      from (no j) = absurd (none (record { image = p; here = i; not-before = j }))
 
   module _ (L : Laws B) (ValidForm : Stack (B .H) → B .H → Type 0)
       (valid-form : (w : List Tag) (s : Stack (B .H)) (c : B .H) → Reduced B w s c → Valid w ↔ ValidForm s c)
@@ -67,8 +58,3 @@ module _ (Rule : ℕ → List Symbol → Type 0) (B : Binoid) (Valid : List Tag 
         let (s, c, d, i) = string-image L (quiet 1) (quiet 3) old (start-useful (n, t)) t in
         let none : InvalidPage Rule B Valid most cap r → ⊥ = λ v. quiet 2 (invalid-later (omega arith) v) in
         (valid-form w s c d .1 (image-valid none s c i), (s, c, d, i .few))
-
-    pub passed-valid : {budget r : ℕ} → ((p : Pair (B .H)) → Dec (Image Rule B Valid most cap (pred r) p))
-        → Decides (Event Rule B Valid most cap) (New Rule B Valid most cap) budget (passed r)
-        → {w : List Tag} {n : ℕ} → Tree Rule 0 w n → Valid w × ((s : Stack (B .H)) × (c : B .H) × Reduced B w s c × (tags s ≤ most))
-    passed-valid {r = r} decided (h, low, went, quiet, none) t = pass-valid r h quiet (no-new-old decided none) t

@@ -2,7 +2,6 @@
 -- trees of height at most r. Round r meets an event when, among trees of height at most r under useful nonterminals: 1. some string is
 -- mismatched; 2. some string of the start is not a valid page; 3. some string reduces to more than 16 tags; 4. there are more than 256
 -- images." Here over any grammar and binoid, any notion of valid, at most `most` tags and `cap` images.
-use mathlib.Core.Path.{_≡_}
 use mathlib.Core.List.{List, [], _∷_, List·Memᴰ}
 use Prim.Native.Nat.{ℕ, zero, suc, pred, _≤_, _<_}
 use lib.ListN.{length}

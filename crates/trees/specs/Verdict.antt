@@ -1,6 +1,5 @@
 -- The deciding round. Document 01, "Rounds and heights": "The first round with an event decides, and in it the lowest number. A round
 -- without event and without a new image is a pass. Rounds are counted against a budget." Over any events and any notion of new.
-use mathlib.Core.Logic.{_⊎_}
 use Prim.Native.Nat.{ℕ, _≤_, _<_}
 
 -- what the rounds come to: an event in a round, a pass in a round, or the budget used

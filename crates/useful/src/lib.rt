@@ -12,12 +12,6 @@ ghost use Rattle.trees.specs.Trees.{Reached};
 ghost use Rattle.useful.specs.Marks.{slotMarked, withMark, withSlot, Ruled, AllMarked, MarksAll, Fruitful, Passed};
 ghost use Rattle.useful.specs.Marks.{KeptUp, KeptDown, PassedUp, PassedDown};
 
-fn wide(x: u8) -> usize
-    ensures { λ r. ⌜ (r ≡ x) × (r < 256) ⌝ }
-{
-    x as usize
-}
-
 // Is the nonterminal marked?
 pub fn marked(marks: u64, x: usize) -> bool
     requires { ⌜ x < 64 ⌝ }
@@ -39,7 +33,7 @@ fn field(rules: &[u8], i: usize, j: usize) -> usize
     requires { ⌜ (i < length (now rules) / 4) × (j < 4) ⌝ }
     ensures { λ r. ⌜ (r ≡ field (now (rules .entry)) i j) × (r < 256) ⌝ }
 {
-    wide(rules[i * 4 + j])
+    words::wide(rules[i * 4 + j])
 }
 
 // Is the symbol at a place no nonterminal, or a marked one?

@@ -42,13 +42,6 @@ pub endings-shown : (f : List ℕ) → endingsOf f (reading f) ≡ endingsIn f
 unfolding endingsOf
 endings-shown = shown-held endingsOf endingStates (λ f. refl) (λ f p. refl)
 
--- the lists of a sound file, and of a bad one
-pub sound-list : (f xs : List ℕ) → IsSound f → ofSound (reading f) xs ≡ xs
-sound-list f xs e = rw (sound-reading f e)
-
-pub bad-list : (f xs : List ℕ) (p : ℕ) → reading f ≡ Bad p → ofSound (reading f) xs ≡ []
-bad-list f xs p e = rw e
-
 -- a part and the rest of the file behind it, the last part, and all three
 part-then : (f xs : List ℕ) (at len : ℕ) → at + len ≤ length f → xs ≡ drop (at + len) f → partOf f at len ++ xs ≡ drop at f
 part-then f xs at len h e =

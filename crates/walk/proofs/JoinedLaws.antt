@@ -29,8 +29,8 @@ use Rattle.walk.proofs.VisitLaws.{Before, Visited, Going, same, onward}
 
 module _ (states : ℕ) (rules schema endings : List ℕ) (t₀ : List ℕ) (prev n : ℕ) (first : Bool) (i j k : ℕ) (t : List ℕ) (m : ℕ)
     (notes : Notes) (going : Going states rules schema endings t₀ prev n first i j k t m notes) where
-  rows-same : (k : ℕ) → k < n → rowAt t k ≡ rowAt t₀ k
-  rows-same = same states rules schema endings t₀ prev n first i j k t m notes going
+  rows-kept : (k : ℕ) → k < n → rowAt t k ≡ rowAt t₀ k
+  rows-kept = same states rules schema endings t₀ prev n first i j k t m notes going
 
   -- one pair more: the walk goes on, or it stops at a mismatch
   abbrev pub AfterTurn : Turn → List ℕ → Type 0
@@ -44,8 +44,8 @@ module _ (states : ℕ) (rules schema endings : List ℕ) (t₀ : List ℕ) (pre
     form-there : (slot : Slot) (h : ℕ) → h < choices slot n → (s : Stack ℕ) (c : ℕ)
         → FormOf (unit 8 states) t slot h s c ↔ Choice (unit 8 states) t₀ n slot h s c
     form-there slot h l s c = (
-      λ f. choice-same (unit 8 states) t₀ t n rows-same slot h s c .1 (choice-form (unit 8 states) t n slot h s c l .0 f),
-      λ w. choice-form (unit 8 states) t n slot h s c l .1 (choice-same (unit 8 states) t₀ t n rows-same slot h s c .0 w),
+      λ f. choice-same (unit 8 states) t₀ t n rows-kept slot h s c .1 (choice-form (unit 8 states) t n slot h s c l .0 f),
+      λ w. choice-form (unit 8 states) t n slot h s c l .1 (choice-same (unit 8 states) t₀ t n rows-kept slot h s c .0 w),
     )
 
     -- before (i, j, k + 1): before (i, j, k), or there
@@ -73,9 +73,9 @@ module _ (states : ℕ) (rules schema endings : List ℕ) (t₀ : List ℕ) (pre
         }
     after-outcome o p Mismatch t′ (l, d, (a, b, w)) = (l, d, (x, a, b, w))
 
-    pub turned-next : (r : Turn) (t′ : List ℕ)
+    pub joined-next : (r : Turn) (t′ : List ℕ)
         → Turned states schema endings (unit 8 states) t (leftSlot rules i) j (rightSlot rules i) k x m notes r t′ → AfterTurn r t′
-    turned-next r t′ (no-forms f) =
+    joined-next r t′ (no-forms f) =
         onward states rules schema endings t₀ prev n first i j k t m notes going i j (k + 1)
         (λ a b c y o l p. ⊎-elim (λ h. inl h) (λ (d, e, g). absurd (none y o (rw (d, e, g) at p))) (by-place a b c l))
       where
@@ -84,7 +84,7 @@ module _ (states : ℕ) (rules schema endings : List ℕ) (t₀ : List ℕ) (pre
             f (p .form) (p .last) (p .form′) (p .last′)
             (form-there (leftSlot rules i) j is-left (p .form) (p .last) .1 (p .left))
             (form-there (rightSlot rules i) k is-right (p .form′) (p .last′) .1 (p .right))
-    turned-next r t′ (joined s c u d r″ t″ a b w) =
+    joined-next r t′ (joined s c u d r″ t″ a b w) =
         let o = join (relations 8 states schema endings) (reduced s c) u d in
         let p : Pairing states rules schema endings t₀ n i j k x o = record {
           is-rule = is-rule;

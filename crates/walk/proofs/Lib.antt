@@ -9,4 +9,3 @@ pub mod LoadLaws
 pub mod NoteLaws
 pub mod TurnLaws
 pub mod RoundLaws
-pub mod NextLaws

@@ -18,8 +18,9 @@ use Rattle.stack.proofs.HeldLaws.{stack-none, stack-put-start, stack-put-end, u
 use Rattle.stack.proofs.TurnLaws.{holds-value}
 use Rattle.rows.specs.Packed.{nonterminalIn, endsIn, startsIn, namesIn, RowOf}
 use Rattle.rows.proofs.RowLaws.{row-nonterminal, row-holds, row-form, row-last}
+use Rattle.rows.proofs.TableLaws.{row-part}
 use Rattle.walk.specs.Slots.{rowAt, slotOf, leftSlot, rightSlot}
-use Rattle.walk.specs.Turns.{slotFits, leftsOf, rightFrom, Packs, Choosable, TagForm, FormOf, Loads}
+use Rattle.walk.specs.Turns.{slotFits, leftsOf, rightFrom, SomePairRow, Choosable, TagForm, FormOf, Loads}
 use Rattle.walk.specs.declared.Slot.{Slot}
 use Rattle.walk.specs.declared.Slot.the-variants.{Absent, Single, Rows}
 use Rattle.walk.specs.declared.Loaded.{Loaded}
@@ -94,17 +95,14 @@ module _ (s : Slot) (k : ℕ) (t : List ℕ) where
   pub row-within : (x : ℕ) → Choosable t s k → s ≡ Rows x → k * 20 + 20 ≤ length t
   row-within x c e = (rw e at c) .0
 
-  pub row-packs : (x : ℕ) → Choosable t s k → s ≡ Rows x → Packs (rowAt t k)
+  pub row-packs : (x : ℕ) → Choosable t s k → s ≡ Rows x → SomePairRow (rowAt t k)
   row-packs x c e = (rw e at c) .1
 
 -- ---- a row, as a part of the table
 
-part : (a : ℕ) (t : List ℕ) → take (a + 20 - a) (drop a t) ≡ take 20 (drop a t)
-part a t = let e : a + 20 - a ≡ 20 = omega arith in rw e
-
 pub row-test : (t : List ℕ) (k x v : ℕ) → v ≡ nonterminalIn (take (k * 20 + 20 - k * 20) (drop (k * 20) t))
     → eqb v x ≡ eqb (nonterminalIn (rowAt t k)) x
-row-test t k x v e = rw (← (part (k * 20) t), e)
+row-test t k x v e = rw (← (row-part (k * 20) t), e)
 
 -- ---- forms in the arrays
 
@@ -162,7 +160,7 @@ module _ (empty : ℕ) (t : List ℕ) (s : Slot) (k : ℕ) (names values : List 
   pub loads-rows : (x : ℕ) → s ≡ Rows x → Loads (RowOf (rowAt t k) x) r names values → Loads (FormOf empty t s k) r names values
   loads-rows x e w = rw e w
 
-module _ (t : List ℕ) (k x : ℕ) (fits : Bool) (told : fits ≡ eqb (nonterminalIn (rowAt t k)) x) (packs : Packs (rowAt t k)) where
+module _ (t : List ℕ) (k x : ℕ) (fits : Bool) (told : fits ≡ eqb (nonterminalIn (rowAt t k)) x) (packs : SomePairRow (rowAt t k)) where
   pub loads-row : (e s : ℕ) (names values : List ℕ) → fits ≡ true
       → e ≡ endsIn (take (k * 20 + 20 - k * 20) (drop (k * 20) t))
       → s ≡ startsIn (take (k * 20 + 20 - k * 20) (drop (k * 20) t))
@@ -174,7 +172,7 @@ module _ (t : List ℕ) (k x : ℕ) (fits : Bool) (told : fits ≡ eqb (nontermi
       let row = rowAt t k in
       let is : p .of ≡ x =
       sym (row-nonterminal row (p .of) (p .form) (p .last) r) ∙ eqb-true (nonterminalIn row) x (sym told ∙ f) in
-      rw (e-is, s-is, names-is, values-is, part (k * 20) t) (
+      rw (e-is, s-is, names-is, values-is, row-part (k * 20) t) (
         row-holds row (p .of) (p .form) (p .last) r,
         rw (row-form row (p .of) (p .form) (p .last) r, row-last row (p .of) (p .form) (p .last) r, ← is) r,
       )

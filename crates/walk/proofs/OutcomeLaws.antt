@@ -26,7 +26,7 @@ use Rattle.walk.specs.Turns.{stands, finds-no-room, goes-behind, mismatc
 use Rattle.walk.specs.declared.Notes.{Notes}
 use Rattle.walk.specs.declared.Turn.{Turn}
 use Rattle.walk.specs.declared.Turn.the-variants.{Kept, Mismatch}
-use Rattle.walk.proofs.ValidLaws.{or-false-left, or-false-right, invalid-form, valid-form, deep-invalid}
+use Rattle.walk.proofs.ValidLaws.{or-false-left, or-false-right, invalid-form, valid-start-form, deep-invalid}
 use Rattle.walk.proofs.ProgressLaws.{below-next, Later, tabled-later, noted-later, Sofar}
 
 -- a row stands among the others exactly where its pair does
@@ -121,7 +121,7 @@ module _ (states : ℕ) (rules schema endings : List ℕ) (R Seen : ℕ → Outc
             deep-noted = λ h. absurd (omega arith);
             stands = λ h f. w f;
             valid = λ z f.
-                valid-form states rules schema endings x s c (or-false-right (notes .invalid) (invalidForm endings x s c) f) z;
+                valid-start-form states rules schema endings x s c (or-false-right (notes .invalid) (invalidForm endings x s c) f) z;
           }
 
       form-later : (crowded : Bool) (t′ : List ℕ) (m′ : ℕ) → (crowded ≡ false → notes .crowded ≡ false)

@@ -19,16 +19,15 @@ use Rattle.stack.proofs.HeldLaws.{ends-first-held}
 use Rattle.trees.specs.Trees.{Useful}
 use Rattle.trees.specs.Events.{Pair}
 use Rattle.trees.proofs.PairLaws.{GoodForm, form-good, result-pair}
-use Rattle.rows.specs.Packed.{RowOf}
 use Rattle.rows.proofs.RowLaws.{row-pair}
-use Rattle.walk.specs.Slots.{rowAt, Tabled, leftSlot, rightSlot, Choice, choices, newFrom}
+use Rattle.walk.specs.Slots.{rowAt, PairRow, Tabled, leftSlot, rightSlot, Choice, choices, newFrom}
 use Rattle.walk.specs.Walks.{ResultOver, Proper}
 use Rattle.walk.proofs.SlotLaws.{left-forms, right-forms, choice-unique, choice-old}
 
 module _ (states : ℕ) (rules schema endings : List ℕ) where
   -- every row below n is that of a proper pair
   abbrev pub AllProper : List ℕ → ℕ → Type 0
-  AllProper t n = (k : ℕ) → k < n → (p : Pair ℕ) × RowOf (rowAt t k) (p .of) (p .form) (p .last) × Proper states rules schema endings p
+  AllProper t n = (k : ℕ) → k < n → (p : Pair ℕ) × PairRow (rowAt t k) p × Proper states rules schema endings p
 
   -- rule i of the useful nonterminal x, left choice j and right choice k, joined to the outcome o
   pub record Pairing (t : List ℕ) (n i j k x : ℕ) (o : Outcome ℕ) : Type 0 where

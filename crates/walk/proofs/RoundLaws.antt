@@ -25,10 +25,10 @@ use Rattle.walk.specs.declared.Turn.the-variants.{Kept, Mismatch}
 use Rattle.walk.specs.declared.Walk.the-variants.{Stopped, Went}
 use Rattle.walk.proofs.ProgressLaws.{no-notes}
 use Rattle.walk.proofs.VisitLaws.{Going, going-start, right-start, right-end, left-end, walk-end}
-use Rattle.walk.proofs.JoinedLaws.{AfterTurn, turned-next}
+use Rattle.walk.proofs.JoinedLaws.{AfterTurn, joined-next}
 
 -- what the walk is lent
-pub record Lent (states : ℕ) (rules schema endings : List ℕ) (empty useful : ℕ) : Type 0 where
+pub record LentParts (states : ℕ) (rules schema endings : List ℕ) (empty useful : ℕ) : Type 0 where
   pub schooled : Schooled states schema endings empty
   pub rules-below : RulesBelow states schema
   pub ends-below : EndsBelow states endings
@@ -71,7 +71,7 @@ module _ {states : ℕ} {rules schema endings : List ℕ} where
   going-begun {t₀ = t₀} {prev = prev} {n = n} {first = first} tidy ready e f g h =
       rw (e, f, g, h) (going-start states rules schema endings t₀ prev n first tidy ready)
 
-  module _ {empty useful : ℕ} (lent : Lent states rules schema endings empty useful) {prev n : ℕ} {first : Bool} where
+  module _ {empty useful : ℕ} (lent : LentParts states rules schema endings empty useful) {prev n : ℕ} {first : Bool} where
     -- after the last rule
     pub round-end : {i m : ℕ} {t₀ t : List ℕ} {notes : Notes} → Going states rules schema endings t₀ prev n first i 0 0 t m notes
         → length rules / 4 ≤ i → Walked states rules schema endings t₀ n (Went m notes) t
@@ -123,7 +123,7 @@ module _ {states : ℕ} {rules schema endings : List ℕ} where
           after-turn : AfterTurn states rules schema endings t₀ prev n first i j k t m notes going r t′
           after-turn =
               let (e, f) = lefts-below (bit useful x) j lefts (choices left n) (rule .lefts-is) l in
-              turned-next states rules schema endings t₀ prev n first i j k t m notes going (lent .schooled .few) (lent .rules-below)
+              joined-next states rules schema endings t₀ prev n first i j k t m notes going (lent .schooled .few) (lent .rules-below)
               (lent .ends-below) x (rule .is-rule) (sym (rule .of)) (lent .marks x small .0 e) (rw (← (rule .left-is)) f)
               (rw (← (rule .right-is), ← (rule .rights-is)) h) r t′
               (rw (lent .schooled .empty-word, rule .left-is, rule .right-is) at turned)

@@ -30,18 +30,18 @@ Chosen empty t n slot s c = (k : ℕ) × (k < choices slot n) × Choice empty t 
 module _ (states : ℕ) (schema endings t : List ℕ) (n : ℕ) (s : Stack ℕ) (c : ℕ) where
   -- a symbol and its slot
 
-  symbol-slot : (b : ℕ) (low middle : Bool)
+  symbol-choice : (b : ℕ) (low middle : Bool)
       → SymbolForm (relations 8 states schema endings) (Tabled t n)
       (pickSymbol low (tag (start b)) (pickSymbol middle (tag (end (b - 32))) (nonterminal (b - 64)))) s c
       ↔ Chosen (unit 8 states) t n (pickSlot low (Single false b) (pickSlot middle (Single true (b - 32)) (Rows (b - 64)))) s c
-  symbol-slot b true middle = (λ (p, q). (0, omega arith, (refl, p, q)), λ (k, l, (e, p, q)). (p, q))
-  symbol-slot b false true = (λ (p, q). (0, omega arith, (refl, p, q)), λ (k, l, (e, p, q)). (p, q))
-  symbol-slot b false false = (λ (k, l, r). (k, l, (l, r)), λ (k, l, (l′, r)). (k, l, r))
+  symbol-choice b true middle = (λ (p, q). (0, omega arith, (refl, p, q)), λ (k, l, (e, p, q)). (p, q))
+  symbol-choice b false true = (λ (p, q). (0, omega arith, (refl, p, q)), λ (k, l, (e, p, q)). (p, q))
+  symbol-choice b false false = (λ (k, l, r). (k, l, (l, r)), λ (k, l, (l′, r)). (k, l, r))
 
   used-slot : (b : ℕ) → SymbolForm (relations 8 states schema endings) (Tabled t n) (symbolOf b) s c
       ↔ Chosen (unit 8 states) t n (slotOf true b) s c
   unfolding symbolOf slotOf
-  used-slot b = symbol-slot b (ltb b 32) (ltb b 64)
+  used-slot b = symbol-choice b (ltb b 32) (ltb b 64)
 
   missing-slot : (b k : ℕ) → FormAt (relations 8 states schema endings) (Tabled t n) [] k s c
       ↔ Chosen (unit 8 states) t n (slotOf false b) s c

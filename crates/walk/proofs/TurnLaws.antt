@@ -1,10 +1,10 @@
--- One pair of choices (specs/Turns.antt), in the words in which `one_turn` has it, for `search turns`: arrays of zeros hold the empty
--- form, what is loaded stands in the arrays, and joining on the arrays says what the join is under the limit (stack's FormLaws, words'
--- LimitLaws). Assumes nothing.
-use mathlib.Core.Path.{_≡_, refl, sym, _∙_}
+-- One pair of choices (specs/Turns.antt), in the words in which `one_turn` has it, for `search one-turn-laws`: arrays of zeros hold the
+-- empty form, what is loaded stands in the arrays, and joining on the arrays says what the join is under the limit (stack's FormLaws,
+-- words' LimitLaws). Assumes nothing.
+use mathlib.Core.Path.{_≡_, sym, _∙_}
 use mathlib.Core.Bool.{true, _||_}
 use mathlib.Core.List.{List}
-use Prim.Native.Nat.{ℕ, zero, suc, _+_, _≤_}
+use Prim.Native.Nat.{ℕ, _+_, _≤_}
 use native.Mathlib.Omega.{arith}
 use lib.Dec.{eqb}
 use lib.ListN.{getD, replicate}
@@ -18,6 +18,7 @@ use Rattle.stack.specs.Held.{stackOf}
 use Rattle.stack.specs.Steps.{Holds, outcome, Stepped, after-form}
 use Rattle.stack.specs.declared.Step.{Step}
 use Rattle.stack.specs.declared.Step.the-variants as steps
+use Rattle.stack.proofs.TagLaws.{holds-none}
 use Rattle.stack.proofs.FormLaws.{form-limit}
 use Rattle.walk.specs.Turns.{FormOf, Loads, FormNoted, OutcomeNoted, Turned, mismatches, is-deep, is-form, no-forms, joined}
 use Rattle.walk.specs.declared.Slot.{Slot}
@@ -29,22 +30,8 @@ use Rattle.walk.specs.declared.Turn.the-variants.{Kept, Mismatch}
 
 -- ---- arrays of zeros
 
-abbrev pub zeros : ℕ → List ℕ
-zeros n = replicate n 0
-
-zero-at : (n k : ℕ) → getD (zeros n) k 0 ≡ 0
-zero-at zero k = refl
-zero-at (suc n) zero = refl
-zero-at (suc n) (suc k) = zero-at n k
-
-pub zeros-hold : Holds 0 0 (zeros 16) (zeros 17)
-zeros-hold =
-    record {
-      names-long = refl;
-      values-long = refl;
-      room = omega arith;
-      unused = record { names-zero = λ k l. zero-at 16 k; relations-zero = λ k l. zero-at 17 k };
-    }
+pub zeros-hold : Holds 0 0 (replicate 16 0) (replicate 17 0)
+zeros-hold = holds-none 0
 
 -- ---- what is loaded
 
@@ -79,18 +66,18 @@ module _ (states : ℕ) (schema endings : List ℕ) (empty : ℕ) (t : List ℕ)
     module _ (e s d u : ℕ) (left-is : a ≡ Form e s) (right-is : b ≡ Form d u) (step : Step) (names′ values′ : List ℕ)
         (told : Stepped step names′ values′ (after-form states schema endings e s names values d tags relations′ (d + u))) where
       -- the join of the two forms
-      abbrev pub both : Outcome ℕ
-      both =
+      abbrev pub joinedForms : Outcome ℕ
+      joinedForms =
           join (relations 8 states schema endings) (reduced (stackOf e names values (e + s)) (getD values (e + s) 0))
           (stackOf d tags relations′ (d + u)) (getD relations′ (d + u) 0)
 
-      answers : Answers 16 both (outcome step names′ values′)
+      answers : Answers 16 joinedForms (outcome step names′ values′)
       answers =
-          limit-iff (relations 8 states schema endings) 16 both (outcome step names′ values′) .0
+          limit-iff (relations 8 states schema endings) 16 joinedForms (outcome step names′ values′) .0
           (sym (form-limit states schema endings e s names values d tags relations′ (d + u)
           (loaded-room empty t left j a names values left-loads e s left-is)) ∙ sym (told .says))
 
-      turn-joined : (r : Turn) (t′ : List ℕ) → OutcomeNoted endings x both t m notes r t′
+      turn-joined : (r : Turn) (t′ : List ℕ) → OutcomeNoted endings x joinedForms t m notes r t′
           → Turned states schema endings empty t left j right k x m notes r t′
       turn-joined r t′ w =
           joined (stackOf e names values (e + s)) (getD values (e + s) 0) (stackOf d tags relations′ (d + u)) (getD relations′ (d + u) 0)
@@ -118,4 +105,4 @@ module _ (states : ℕ) (schema endings : List ℕ) (empty : ℕ) (t : List ℕ)
           let (v, h, q, l) = rw p at answers in
           turn-joined (Kept m (record { invalid = notes .invalid || eqb x 0; deep = true; crowded = notes .crowded })) t (is-deep v h q l)
 
-pub ruleset turns = (zeros-hold, loaded-fits, turn-no-right, needs)
+pub ruleset one-turn-laws = (zeros-hold, loaded-fits, turn-no-right, needs)

@@ -14,9 +14,13 @@ use Rattle.rows.specs.Packed.{RowOf}
 use Rattle.walk.specs.declared.Slot.{Slot}
 use Rattle.walk.specs.declared.Slot.the-variants.{Absent, Single, Rows}
 
+-- the row packs the pair
+abbrev pub PairRow : List ℕ → Pair ℕ → Type 0
+PairRow row p = RowOf row (p .of) (p .form) (p .last)
+
 -- the pairs that the rows below n pack
 abbrev pub Tabled : List ℕ → ℕ → Pair ℕ → Type 0
-Tabled t n p = (k : ℕ) × (k < n) × RowOf (rowAt t k) (p .of) (p .form) (p .last)
+Tabled t n p = (k : ℕ) × (k < n) × PairRow (rowAt t k) p
 
 -- what stands at a place that is used or not: nothing, a tag, or a nonterminal
 abbrev pub pickSlot : Bool → Slot → Slot → Slot

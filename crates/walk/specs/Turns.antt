@@ -14,7 +14,7 @@ use Rattle.stack.specs.Steps.{Holds}
 use Rattle.trees.specs.Events.{Pair}
 use Rattle.rows.specs.Tables.{rowsOf, tableOf, among}
 use Rattle.rows.specs.Packed.{nonterminalIn, RowOf}
-use Rattle.walk.specs.Slots.{rowAt}
+use Rattle.walk.specs.Slots.{rowAt, PairRow}
 use Rattle.walk.specs.declared.Slot.{Slot}
 use Rattle.walk.specs.declared.Slot.the-variants.{Absent, Single, Rows}
 use Rattle.walk.specs.declared.Notes.{Notes}
@@ -45,14 +45,14 @@ rightFrom true false newRight rights = 0
 -- ---- a choice's form in two arrays
 
 -- the row packs some pair
-abbrev pub Packs : List ℕ → Type 0
-Packs row = (p : Pair ℕ) × RowOf row (p .of) (p .form) (p .last)
+abbrev pub SomePairRow : List ℕ → Type 0
+SomePairRow row = (p : Pair ℕ) × PairRow row p
 
 -- a choice that is a row stands in the table and packs some pair
 abbrev pub Choosable : List ℕ → Slot → ℕ → Type 0
 Choosable t Absent k = Unit {0}
 Choosable t (Single closes a) k = Unit {0}
-Choosable t (Rows x) k = (k * 20 + 20 ≤ length t) × Packs (rowAt t k)
+Choosable t (Rows x) k = (k * 20 + 20 ≤ length t) × SomePairRow (rowAt t k)
 
 -- a tag's own form
 abbrev pub TagForm : ℕ → Bool → ℕ → Stack ℕ → ℕ → Type 0

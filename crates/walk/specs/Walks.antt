@@ -14,8 +14,7 @@ use Rattle.template.specs.Grammar.{Gives}
 use Rattle.trees.specs.Trees.{Useful}
 use Rattle.trees.specs.Events.{Pair}
 use Rattle.trees.specs.Results.{Result}
-use Rattle.rows.specs.Packed.{RowOf}
-use Rattle.walk.specs.Slots.{rowAt, Tabled}
+use Rattle.walk.specs.Slots.{rowAt, PairRow, Tabled}
 use Rattle.walk.specs.declared.Notes.{Notes}
 use Rattle.walk.specs.declared.Walk.{Walk}
 use Rattle.walk.specs.declared.Walk.the-variants.{Stopped, Went}
@@ -40,7 +39,7 @@ module _ (states : ℕ) (rules schema endings : List ℕ) where
   pub record Tidy (t : List ℕ) (n : ℕ) : Type 0 where
     pub room : 5120 ≤ length t
     pub few : n ≤ 256
-    pub proper : (k : ℕ) → k < n → (p : Pair ℕ) × RowOf (rowAt t k) (p .of) (p .form) (p .last) × Proper p
+    pub proper : (k : ℕ) → k < n → (p : Pair ℕ) × PairRow (rowAt t k) p × Proper p
     pub different : (j k : ℕ) → j < n → k < n → rowAt t j ≡ rowAt t k → j ≡ k
 
   -- an outcome of x that meets no event, and whose pair stands in the rows below n
@@ -80,7 +79,7 @@ module _ (states : ℕ) (rules schema endings : List ℕ) where
     pub tidy : Tidy t′ m
     pub same-rows : (k : ℕ) → k < n → rowAt t′ k ≡ rowAt t k
     pub found : (k : ℕ) → n ≤ k → k < m
-        → (p : Pair ℕ) × RowOf (rowAt t′ k) (p .of) (p .form) (p .last) × R (p .of) (reduced (p .form) (p .last)) × (tags (p .form) ≤ 16)
+        → (p : Pair ℕ) × PairRow (rowAt t′ k) p × R (p .of) (reduced (p .form) (p .last)) × (tags (p .form) ≤ 16)
 
   -- the walk's reply and the table after it
   abbrev pub Walked : List ℕ → ℕ → Walk → List ℕ → Type 0

@@ -15,7 +15,7 @@ ghost use Rattle.stack.specs.Steps.{Schooled, Holds};
 ghost use Rattle.rows.specs.Packed.{nonterminalIn, RowOf};
 ghost use Rattle.useful.specs.Marks.{Ruled, MarksAll};
 ghost use Rattle.walk.specs.Slots.{slotOf, leftSlot, rightSlot, choices, newFrom, rowAt};
-ghost use Rattle.walk.specs.Turns.{slotFits, leftsOf, rightFrom, Packs, Choosable, TagForm, FormOf, Loads, isPage, invalidForm, FormNoted, Turned};
+ghost use Rattle.walk.specs.Turns.{slotFits, leftsOf, rightFrom, SomePairRow, Choosable, TagForm, FormOf, Loads, isPage, invalidForm, FormNoted, Turned};
 ghost use Rattle.walk.specs.Walks.{Tidy, Ready, Walked};
 
 // What stands at a place of a rule's right side: nothing, a tag, or the rows of a nonterminal.
@@ -150,7 +150,7 @@ fn load_tag(closes: bool, a: u8, empty: u64, names: &mut [u8; 16], values: &mut 
 // Puts the form of row k into two arrays, where it is one of the nonterminal x.
 fn load_row(table: &[u64], k: usize, x: u8, names: &mut [u8; 16], values: &mut [u64; 17]) -> Loaded
     requires { ⌜ k * 20 + 20 ≤ length (now table) ⌝ }
-    requires { ⌜ Packs (rowAt (now table) k) ⌝ }
+    requires { ⌜ SomePairRow (rowAt (now table) k) ⌝ }
     ensures { λ r. ⌜ Loads (RowOf (rowAt (now (table .entry)) k) x) r (now (names .exit)) (now (values .exit)) ⌝ }
 {
     if row_fits(table, k, x) {

@@ -32,7 +32,3 @@ mismatched-factor x y (clash z v p n) = simp append-assoc (rw append-assoc at (c
 
 pub mismatched-append : {u : List Tag} (v : List Tag) → Mismatched u → Mismatched (u ++ v)
 mismatched-append v m = mismatched-factor [] v m
-
--- the factors of a word that is not mismatched are not
-pub unmismatched-factor : (x y : List Tag) {w : List Tag} → (Mismatched (x ++ (w ++ y)) → ⊥) → Mismatched w → ⊥
-unmismatched-factor x y n m = n (mismatched-factor x y m)

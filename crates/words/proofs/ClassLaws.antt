@@ -66,10 +66,6 @@ abbrev pub tag-class : Tag → Class
 tag-class (start a) = Start a
 tag-class (end a) = End a
 
-pub spells-classed : {A b : ℕ} {t : Tag} → Spells A b t → Classed A b (tag-class t)
-spells-classed (start-byte n) = start-byte n
-spells-classed (end-byte n) = end-byte n
-
 pub classed-unique : (A b : ℕ) (r q : Class) → Classed A b r → Classed A b q → r ≡ q
 classed-unique A b (Start a) (Start d) s t = ap tag-class (spells-unique s t)
 classed-unique A b (Start a) (End d) s t = ap tag-class (spells-unique s t)

@@ -1,7 +1,7 @@
 -- Depth (specs/Reduced.antt): the counts of a form's tags, and its net depth, which a start tag raises and an end tag lowers by one,
 -- also where the two meet and vanish. So the net depth of a join is the sum, by induction on the right form. Assumes nothing.
 use mathlib.Core.Path.{_≡_, refl, sym, ap, _∙_, subst}
-use Prim.Native.Nat.{ℕ, _+_, _≤_}
+use Prim.Native.Nat.{ℕ, _+_}
 use native.Mathlib.Decide.{ℕ-discrete}
 use native.Mathlib.Omega.{arith}
 use lib.IntN.{ℤ, pos, sucℤ, predℤ, pred-suc, _+ℤ_, +ℤ-sucℤ, +ℤ-predℤ, +ℤ-idr, negℤ, sucℤ-+ℤ, negℤ-sucℤ}
@@ -27,12 +27,6 @@ module _ {H : Type 0} where
   tags-counted bottom = refl
   tags-counted (push s h (start a)) = let e = tags-counted s in omega arith
   tags-counted (push s h (end a)) = let e = tags-counted s in omega arith
-
-  pub starts-within : (s : Stack H) (n : ℕ) → tags s ≤ n → starts s ≤ n
-  starts-within s n l = let e = tags-counted s in omega arith
-
-  pub ends-within : (s : Stack H) (n : ℕ) → tags s ≤ n → ends s ≤ n
-  ends-within s n l = let e = tags-counted s in omega arith
 
   -- net depth
 
@@ -78,13 +72,13 @@ module _ (B : Binoid) where
   net-value (reduced s c) h x n = n
   net-value (differ a b) h x n = tt
 
-  net-joined : (o : Outcome (B .H)) (x : ℤ) → Net o x → (s : Stack (B .H)) (c : B .H) → Net (join B o s c) (x +ℤ net s)
+  net-outcome : (o : Outcome (B .H)) (x : ℤ) → Net o x → (s : Stack (B .H)) (c : B .H) → Net (join B o s c) (x +ℤ net s)
   unfolding join
-  net-joined o x n bottom c = rw (net-bottom, +ℤ-idr) (net-value o c x n)
-  net-joined o x n (push s h t) c =
+  net-outcome o x n bottom c = rw (net-bottom, +ℤ-idr) (net-value o c x n)
+  net-outcome o x n (push s h t) c =
       rw (net-push, shift-sum) (net-value (then-tag B (join B o s h) t) c (shift t (x +ℤ net s))
-      (net-tag (join B o s h) t (x +ℤ net s) (net-joined o x n s h)))
+      (net-tag (join B o s h) t (x +ℤ net s) (net-outcome o x n s h)))
 
   -- the net depth of a join is the sum
   pub net-join : (s r t : Stack (B .H)) (c d e : B .H) → join B (reduced s c) r d ≡ reduced t e → net t ≡ net s +ℤ net r
-  net-join s r t c d e p = subst (λ o. Net o (net s +ℤ net r)) p (net-joined (reduced s c) (net s) refl r d)
+  net-join s r t c d e p = subst (λ o. Net o (net s +ℤ net r)) p (net-outcome (reduced s c) (net s) refl r d)

@@ -1,7 +1,7 @@
 -- Joining is reading on (specs/Reader.antt): a word is read from any outcome as its reduced form is joined to that outcome, tag by tag
 -- and value by value. So joining the forms of two words gives the form of the two in a row, or they are mismatched in a row. Forms that
 -- no word has are joined in the same way, and what joining keeps of them is shown too. Assumes nothing.
-use mathlib.Core.Path.{_≡_, refl, subst}
+use mathlib.Core.Path.{_≡_, refl, _∙_, subst}
 use mathlib.Core.List.{List, _++_}
 use mathlib.Core.Logic.{_↔_}
 use Prim.Native.Nat.{ℕ}
@@ -11,13 +11,13 @@ use Rattle.words.specs.Binoid.{Binoid, Laws}
 use Rattle.words.specs.Reduced.{Stack, bottom, push, EndsFirst, Reduced, whole, after-end, after-start}
 use Rattle.words.specs.Reader.{Outcome, reduced, differ, nothing-read, then-tag, run, then-value, join}
 use Rattle.words.proofs.ReducedLaws.{GoodStack, ends-first-below, reduced-good}
-use Rattle.words.proofs.StepLaws.{GoodOutcome, Ordered, step-push, tag-reduced, value-reduced, tag-differ, value-differ}
-use Rattle.words.proofs.StepLaws.{ordered-tag, ordered-value, good-tag, good-value}
+use Rattle.words.proofs.StepLaws.{GoodOutcome, Ordered, step-push, tag-reduced, value-reduced}
+use Rattle.words.proofs.StepLaws.{ordered-tag, ordered-value, good-tag, good-value, value-unit}
 use Rattle.words.proofs.ReadLaws.{Told, run-then-value, run-tag-value, told-run}
 use Rattle.words.proofs.MismatchLaws.{told-reduced, told-differ}
 
 module _ (B : Binoid) where
-  -- none, next, and after a mismatch
+  -- none, and next
 
   pub join-bottom : (o : Outcome (B .H)) (c : B .H) → join B o bottom c ≡ then-value B o c
   unfolding join
@@ -27,10 +27,6 @@ module _ (B : Binoid) where
       → join B o (push s h t) c ≡ then-value B (then-tag B (join B o s h) t) c
   unfolding join
   join-push o s h t c = refl
-
-  pub join-after-differ : (a b : ℕ) (s : Stack (B .H)) (c : B .H) → join B (differ a b) s c ≡ differ a b
-  join-after-differ a b bottom c = rw (join-bottom, value-differ)
-  join-after-differ a b (push s h t) c = rw (join-push, join-after-differ a b s h, tag-differ, value-differ)
 
   -- what joining keeps
 
@@ -71,6 +67,15 @@ module _ (B : Binoid) where
     join-self bottom c f g gc = rw (join-bottom, value-reduced, L .unit-left gc)
     join-self (push s h t) c f (gs, gh) gc =
         rw (join-push, join-self s h (ends-first-below s h t f) gs gh, tag-reduced, step-push B s h t f, value-reduced, L .unit-left gc)
+
+    -- the empty word's form joined to any outcome changes nothing, and a tag's own form is a tag more
+
+    pub join-unit : (o : Outcome (B .H)) → GoodOutcome (L .Good) o → join B o bottom (B .unit) ≡ o
+    join-unit o g = join-bottom o (B .unit) ∙ value-unit B L o g
+
+    pub join-tag : (o : Outcome (B .H)) (t : Tag) → GoodOutcome (L .Good) o
+        → join B o (push bottom (B .unit) t) (B .unit) ≡ then-tag B o t
+    join-tag o t g = rw (join-push, join-unit o g) (value-unit B L (then-tag B o t) (good-tag B L o t g))
 
     -- the forms of two words
 

@@ -147,12 +147,3 @@ module _ (B : Binoid) (n : ℕ) where
     join-within-limit (push r h t) d g =
         let o = join B (reduced s c) r h in
         rw (← (limit-value (then-tag B o t) d), ← (limit-tag o t (over-join r h t g)), join-within-limit r h (ends-first-below r h t g))
-
-    pub join-within-iff : (r : Stack (B .H)) (d : B .H) → EndsFirst r → (a : Limited (B .H))
-        → (join-within B n (fits s c) r d ≡ a) ↔ Answers n (join B (reduced s c) r d) a
-    join-within-iff r d g a = rw (join-within-limit r d g) (limit-iff (join B (reduced s c) r d) a)
-
-    -- a mismatch comes first: with the limit the same names are found as without it
-    pub join-within-differs : (r : Stack (B .H)) (d : B .H) → EndsFirst r → (a b : ℕ) → join B (reduced s c) r d ≡ differ a b
-        → join-within B n (fits s c) r d ≡ differs a b
-    join-within-differs r d g a b e = join-within-iff r d g (differs a b) .1 e

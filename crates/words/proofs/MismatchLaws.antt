@@ -3,7 +3,7 @@
 -- both. Assumes nothing.
 use mathlib.Core.Path.{_≡_, refl, sym, ap₂, _∙_, subst}
 use mathlib.Core.List.{List, _∷_, _++_}
-use mathlib.Core.Logic.{_↔_, _⊎_, inl, inr, ⊎-elim}
+use mathlib.Core.Logic.{_↔_, _⊎_, inl, inr}
 use Prim.Native.Nat.{ℕ}
 use native.Mathlib.Omega.{arith}
 use Rattle.words.specs.Tags.{Tag, start, end}
@@ -12,6 +12,7 @@ use Rattle.words.specs.Binoid.{Binoid, Laws}
 use Rattle.words.specs.Reduced.{Stack, push, Reduced}
 use Rattle.words.specs.Reader.{Outcome, reduced, differ, nothing-read, run, read}
 use Rattle.words.proofs.ValueLaws.{balanced-value}
+use Rattle.words.proofs.ReducedLaws.{balanced-iff}
 use Rattle.words.proofs.StepLaws.{step-start, step-other}
 use Rattle.words.proofs.ReadLaws.{Told, run-append, run-differ, run-tag, run-unit, run-reduced, told-read, reduced-unique}
 
@@ -50,15 +51,15 @@ module _ (B : Binoid) (L : Laws B) where
   pub never-both : {w : List Tag} {s : Stack (B .H)} {c : B .H} → Reduced B w s c → Mismatched w → ⊥
   never-both r m = let (a, b, e) = run-mismatched m (nothing-read B) in reduced-not-differ (sym (run-reduced B L r) ∙ e)
 
+  pub balanced-not-mismatched : {w : List Tag} → Balanced w → Mismatched w → ⊥
+  balanced-not-mismatched b m = never-both (balanced-iff B .0 b .1) m
+
   pub one-of : (w : List Tag) → ((s : Stack (B .H)) × (c : B .H) × Reduced B w s c) ⊎ Mismatched w
   one-of w = from (read B w) (told-read B L w)
     where
       from : (o : Outcome (B .H)) → Told B w o → ((s : Stack (B .H)) × (c : B .H) × Reduced B w s c) ⊎ Mismatched w
       from (reduced s c) r = inl (s, c, r)
       from (differ a b) m = inr m
-
-  pub mismatched-decided : (w : List Tag) → Dec (Mismatched w)
-  mismatched-decided w = ⊎-elim (λ r. no (never-both (r .2))) yes (one-of w)
 
   -- an outcome that tells of a word tells all
 

@@ -1,5 +1,6 @@
 -- One tag or one balanced word more (specs/Reader.antt): the equations of a step, one for each case that a reader meets, and what a
--- step keeps: good values, and end tags before start tags. Each is by cases on the form. Assumes nothing.
+-- step keeps: good values, and end tags before start tags; the unit as a value changes nothing. Each is by cases on the form.
+-- Assumes nothing.
 use mathlib.Core.Path.{_≡_, refl}
 use Prim.Native.Nat.{ℕ}
 use native.Mathlib.Decide.{ℕ-discrete}
@@ -66,10 +67,6 @@ module _ (B : Binoid) where
   unfolding then-tag
   tag-reduced s c t = refl
 
-  pub tag-differ : (a b : ℕ) (t : Tag) → then-tag B (differ a b) t ≡ differ a b
-  unfolding then-tag
-  tag-differ a b t = refl
-
   pub value-reduced : (s : Stack (B .H)) (c h : B .H) → then-value B (reduced s c) h ≡ reduced s (B .compose c h)
   unfolding then-value
   value-reduced s c h = refl
@@ -129,3 +126,8 @@ module _ (B : Binoid) where
     unfolding then-value
     good-value (reduced s c) h (gs, gc) gh = (gs, L .good-compose gc gh)
     good-value (differ a b) h g gh = tt
+
+    -- the unit changes nothing
+    pub value-unit : (o : Outcome (B .H)) → GoodOutcome (L .Good) o → then-value B o (B .unit) ≡ o
+    value-unit (reduced s c) (gs, gc) = rw (value-reduced, L .unit-right gc)
+    value-unit (differ a b) g = value-differ a b (B .unit)

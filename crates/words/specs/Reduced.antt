@@ -2,7 +2,7 @@
 -- with unmatched end tags and then unmatched start tags between them; ν puts the value of each balanced word in its place. Document
 -- 01, "Reduced forms": "reduces to unmatched end tags, then unmatched start tags, with a relation before, between and after them".
 use mathlib.Core.List.{List, [], _∷_, _++_}
-use Prim.Native.Nat.{ℕ, zero, suc}
+use Prim.Native.Nat.{ℕ, suc}
 use lib.IntN.{ℤ, pos, _-ℤ_}
 use Rattle.words.specs.Tags.{Tag, start, end}
 use Rattle.words.specs.Binoid.{Binoid, Value}

@@ -22,7 +22,7 @@ unit-requires : tie.Need-unit-requires
 unit-requires c κs =
     let e = c .before in
     let s = e .before .before .before .before .before in
-    part-few _ _ (s .pre .0) _ (e .before .before .template-rules .ensures) _ _ _ (c .wide .ensures) (e .before .schema-rules .ensures)
+    part-few _ _ (s .pre .0) _ (e .before .before .template-rules .ensures) _ _ _ (c .wide .ensures .0) (e .before .schema-rules .ensures)
     (e .ending-states .ensures)
 
 walk-round-requires : tie.Need-walk-round-requires
@@ -30,7 +30,7 @@ walk-round-requires c κs =
     let w = c .before .before in
     let e = w .before in
     let s = e .before .before .before .before .before in
-    part-asks _ _ (s .pre .0) _ (e .before .before .template-rules .ensures) _ _ _ (w .wide .ensures) (e .before .schema-rules .ensures)
+    part-asks _ _ (s .pre .0) _ (e .before .before .template-rules .ensures) _ _ _ (w .wide .ensures .0) (e .before .schema-rules .ensures)
     (e .ending-states .ensures) _ _ _ _ _ _ (c .before .unit .ensures) (s .pre .1 .0) (s .pre .1 .1 .0) (s .pre .1 .1 .1)
 
 same-length : tie.Need-same-length
@@ -42,7 +42,7 @@ returns c =
     let w = a .before .before .before in
     let e = w .before in
     let s = e .before .before .before .before .before in
-    part-walked _ _ (s .pre .0) _ (e .before .before .template-rules .ensures) _ _ _ (w .wide .ensures) (e .before .schema-rules .ensures)
+    part-walked _ _ (s .pre .0) _ (e .before .before .template-rules .ensures) _ _ _ (w .wide .ensures .0) (e .before .schema-rules .ensures)
     (e .ending-states .ensures) (now (s .args .table)) (a .walk-round .last .1 .1 .1 .1 .1 .1 .0) (s .args .n) (a .walk-round .result)
     (a .walk-round .ensures)
 

@@ -8,14 +8,14 @@ use borrow.Author.Needs.{needs}
 use Rattle.template.specs.Order.{IsSound}
 use Rattle.summary.proofs.ShapeLaws.{shape-sound}
 use Rattle.walk.specs.declared.Walk.{Walk}
-use Rattle.rounds.proofs.StateLaws.{After, start-state, state-ready}
+use Rattle.rounds.proofs.StateLaws.{AfterRound, start-state, state-ready}
 use Rattle.rounds.proofs.EndLaws.{Turn, Noting, ends-used}
 use Rattle.rounds.proofs.EndLaws.{ends-mismatch, ends-invalid, ends-deep, ends-crowded, ends-passed, goes-on}
 use Rattle.rounds.proofs.rounds.Statement.{statement}
 use Rattle.rounds.proofs.rounds.Tie as tie
 
 abbrev Inv-loop : tie.InvT-loop
-Inv-loop file shape useful table₀ budget prev₀ n₀ r₀ table prev n r = (r ≤ budget) × After file table₀ table r prev n
+Inv-loop file shape useful table₀ budget prev₀ n₀ r₀ table prev n r = (r ≤ budget) × AfterRound file table₀ table r prev n
 
 abbrev μ-loop : tie.MeasureT-loop
 μ-loop file shape useful table₀ budget prev₀ n₀ r₀ table prev n r = budget - r

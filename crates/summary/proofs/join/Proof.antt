@@ -25,7 +25,7 @@ is-summary-requires : tie.Need-is-summary-requires
 is-summary-requires c κs =
     let known = c .before .before in
     let sound = read-is _ _ _ (known .before .before .read .ensures) (known .r2 .given .1) in
-    states-few _ _ sound (c .wide .result) (c .wide .ensures)
+    states-few _ _ sound (c .wide .result) (c .wide .ensures .0)
 
 join-refused-requires-2 : tie.Need-join-refused-requires-2
 join-refused-requires-2 c κs = search needs
@@ -38,7 +38,7 @@ returns c =
     let wide = c .before .before .before .wide in
     let test = c .before .before .is-summary in
     join-no-left _ (args .left) (args .right) (c .join-refused2 .result) (c .join-refused2 .ensures) (shape-sound _ _ sound)
-    (failed-summary _ _ sound (wide .result) (wide .ensures) (args .left) (test .result) (test .ensures) (c .before .if1 .taken))
+    (failed-summary _ _ sound (wide .result) (wide .ensures .0) (args .left) (test .result) (test .ensures) (c .before .if1 .taken))
 
 wide-requires-2 : tie.Need-wide-requires-2
 wide-requires-2 c κs = search needs
@@ -47,7 +47,7 @@ is-summary-requires-2 : tie.Need-is-summary-requires-2
 is-summary-requires-2 c κs =
     let known = c .before .before .before .before .before in
     let sound = read-is _ _ _ (known .before .before .read .ensures) (known .r2 .given .1) in
-    states-few _ _ sound (c .wide2 .result) (c .wide2 .ensures)
+    states-few _ _ sound (c .wide2 .result) (c .wide2 .ensures .0)
 
 join-refused-requires-3 : tie.Need-join-refused-requires-3
 join-refused-requires-3 c κs = search needs
@@ -60,7 +60,7 @@ returns-2 c =
     let wide = c .before .before .before .wide2 in
     let test = c .before .before .is-summary2 in
     join-no-right _ (args .left) (args .right) (c .join-refused3 .result) (c .join-refused3 .ensures) (shape-sound _ _ sound)
-    (failed-summary _ _ sound (wide .result) (wide .ensures) (args .right) (test .result) (test .ensures) (c .before .if2 .taken))
+    (failed-summary _ _ sound (wide .result) (wide .ensures .0) (args .right) (test .result) (test .ensures) (c .before .if2 .taken))
 
 join-summaries-requires : tie.Need-join-summaries-requires
 join-summaries-requires c κs =
@@ -73,9 +73,9 @@ join-summaries-requires c κs =
     let right-test = c .before .is-summary2 in (
       sound,
       (
-        passed-summary _ _ sound (left-wide .result) (left-wide .ensures) (args .left) (left-test .result) (left-test .ensures)
+        passed-summary _ _ sound (left-wide .result) (left-wide .ensures .0) (args .left) (left-test .result) (left-test .ensures)
             (c .before .before .before .if1 .left),
-        passed-summary _ _ sound (right-wide .result) (right-wide .ensures) (args .right) (right-test .result) (right-test .ensures)
+        passed-summary _ _ sound (right-wide .result) (right-wide .ensures .0) (args .right) (right-test .result) (right-test .ensures)
             (c .if2 .left),
       ),
     )

@@ -58,7 +58,7 @@ returns-2 c =
     let ends = known .before .ending-states in
     let rules = known .before .before .schema-rules in
     let s = known .before .before .before .before in
-    joined-differ _ _ (s .pre .0) (wide .result) (wide .ensures) _ _ (rules .ensures) (ends .ensures) (s .args .left) (s .args .right)
+    joined-differ _ _ (s .pre .0) (wide .result) (wide .ensures .0) _ _ (rules .ensures) (ends .ensures) (s .args .left) (s .args .right)
     (s .pre .1 .0) (s .pre .1 .1) (form .result) _ _ (form .ensures) (c .join-refused .result) _ _ (c .before .enum-told .given .1)
     (c .join-refused .ensures)
 
@@ -70,7 +70,7 @@ returns-3 c =
     let ends = known .before .ending-states in
     let rules = known .before .before .schema-rules in
     let s = known .before .before .before .before in
-    joined-deep _ _ (s .pre .0) (wide .result) (wide .ensures) _ _ (rules .ensures) (ends .ensures) (s .args .left) (s .args .right)
+    joined-deep _ _ (s .pre .0) (wide .result) (wide .ensures .0) _ _ (rules .ensures) (ends .ensures) (s .args .left) (s .args .right)
     (s .pre .1 .0) (s .pre .1 .1) (form .result) _ _ (form .ensures) (c .join-refused2 .result) (c .before .enum-told2 .given .1)
     (c .join-refused2 .ensures)
 

@@ -24,7 +24,7 @@ is-summary-requires : tie.Need-is-summary-requires
 is-summary-requires c κs =
     let read = c .before .before .before .before .read in
     let known = c .before .before .r2 .given in
-    states-few _ _ (read-is _ _ _ (read .ensures) (known .1)) (c .wide .result) (c .wide .ensures)
+    states-few _ _ (read-is _ _ _ (read .ensures) (known .1)) (c .wide .result) (c .wide .ensures .0)
 
 returns : tie.Need-returns
 returns c =
@@ -33,7 +33,7 @@ returns c =
     let wide = c .before .before .wide in
     let test = c .before .is-summary in (
       shape-sound _ _ (read-is _ _ _ (read .ensures) (known .1)),
-      failed-summary _ _ (read-is _ _ _ (read .ensures) (known .1)) (wide .result) (wide .ensures) _ (test .result) (test .ensures)
+      failed-summary _ _ (read-is _ _ _ (read .ensures) (known .1)) (wide .result) (wide .ensures .0) _ (test .result) (test .ensures)
           (c .if1 .taken),
     )
 
@@ -43,7 +43,7 @@ difference-requires c κs =
     let known = c .before .before .before .before .r2 .given in
     let wide = c .before .before .wide in
     let test = c .before .is-summary in
-    passed-summary _ _ (read-is _ _ _ (read .ensures) (known .1)) (wide .result) (wide .ensures) _ (test .result) (test .ensures)
+    passed-summary _ _ (read-is _ _ _ (read .ensures) (known .1)) (wide .result) (wide .ensures .0) _ (test .result) (test .ensures)
     (c .if1 .left) .few
 
 returns-2 : tie.Need-returns-2
@@ -56,7 +56,7 @@ returns-3 c =
     let known = c .before .before .before .before .before .r2 .given in
     let wide = c .before .before .before .wide in
     let test = c .before .before .is-summary in
-    let summary = passed-summary _ _ (read-is _ _ _ (read .ensures) (known .1)) (wide .result) (wide .ensures) s (test .result)
+    let summary = passed-summary _ _ (read-is _ _ _ (read .ensures) (known .1)) (wide .result) (wide .ensures .0) s (test .result)
     (test .ensures) (c .before .if1 .left) in (
       shape-sound _ _ (read-is _ _ _ (read .ensures) (known .1)),
       summary,

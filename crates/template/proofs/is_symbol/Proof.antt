@@ -1,6 +1,6 @@
 -- The three ranges are the definition's, grouped to the left in the code and to the right there. Assumes nothing.
 use borrow.Author.Needs.{needs}
-use Rattle.template.proofs.OrderLaws.{or-assoc}
+use mathlib.Core.Bool.{or-assoc}
 use Rattle.template.proofs.is_symbol.Statement.{statement}
 use Rattle.template.proofs.is_symbol.Tie as tie
 

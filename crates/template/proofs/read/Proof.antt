@@ -10,7 +10,7 @@ use lib.ListN.{length}
 use Rattle.template.specs.declared.Fault.{Fault}
 use Rattle.template.specs.Order.{Test, firstFault, bodies, headTests, contentsTests, tests}
 use Rattle.template.specs.Layout.{bodiesEnd}
-use Rattle.template.proofs.FileLaws.{head-length, contents-length, reading-bad, reading-sound}
+use Rattle.template.proofs.FileLaws.{head-length, contents-length, answers-bad, answers-sound}
 use Rattle.template.proofs.OrderLaws.{first-stays, first-passes}
 use Rattle.template.proofs.read.Statement.{statement}
 use Rattle.template.proofs.read.Tie as tie
@@ -54,7 +54,7 @@ returns : tie.Need-returns
 unfolding tests
 returns c =
     let h = c .before .before .before in
-    reading-bad (fileAt h) (first-stays (headTests (fileAt h)) _ (h .head-fault .ensures) (c .before .head .given .1))
+    answers-bad (fileAt h) (first-stays (headTests (fileAt h)) _ (h .head-fault .ensures) (c .before .head .given .1))
 
 enum-told : tie.Need-enum-told
 enum-told c = search needs
@@ -70,7 +70,7 @@ unfolding tests
 returns-2 c =
     let k = c .before .before .before in
     let file = fileAt (k .before .before .before) in
-    reading-bad file
+    answers-bad file
     (after-head (k .before) _ (first-stays (contentsTests file) _ (k .contents-fault .ensures) (c .before .contents .given .1)))
 
 enum-told-2 : tie.Need-enum-told-2
@@ -89,7 +89,7 @@ returns-3 : tie.Need-returns-3
 returns-3 c =
     let b = c .before .before .before in
     let k = b .before .before in
-    reading-bad (fileAt (k .before .before .before .before .before))
+    answers-bad (fileAt (k .before .before .before .before .before))
     (after-contents k (sym (c .before .rest .given .1) ∙ b .bodies-fault .ensures))
 
 enum-told-3 : tie.Need-enum-told-3
@@ -99,7 +99,7 @@ returns-4 : tie.Need-returns-4
 returns-4 c =
     let b = c .before .before in
     let k = b .before .before in
-    reading-sound (fileAt (k .before .before .before .before .before)) (b .before .shape-of .ensures)
+    answers-sound (fileAt (k .before .before .before .before .before)) (b .before .shape-of .ensures)
     (after-contents k (sym (c .enum-told3 .given .1) ∙ b .bodies-fault .ensures))
 
 pub read-spec : {M : Type 1} → statement M

@@ -1,7 +1,7 @@
 -- The two choices are loaded and joined, and the join's answer under the limit is noted (TurnLaws). Facts are named by their places, for
 -- there are more of them than a search goes through. Assumes nothing.
 use Rattle.stack.proofs.TurnLaws.{kept-holds}
-use Rattle.walk.proofs.TurnLaws.{turns, loaded-holds, loaded-room, turn-no-left, turn-form, turn-mismatch, turn-deep}
+use Rattle.walk.proofs.TurnLaws.{one-turn-laws, loaded-holds, loaded-room, turn-no-left, turn-form, turn-mismatch, turn-deep}
 use Rattle.walk.proofs.one_turn.Statement.{statement}
 use Rattle.walk.proofs.one_turn.Tie as tie
 
@@ -22,38 +22,38 @@ abbrev start : tie.After-relations2 → tie.Start
 start c = right-load c .before .before .before .before .before .before .before
 
 load-requires : tie.Need-load-requires
-load-requires c κs = search turns
+load-requires c κs = search one-turn-laws
 
 enum-known-b : tie.Need-enum-known-b
-enum-known-b c = search turns
+enum-known-b c = search one-turn-laws
 
 enum-told : tie.Need-enum-told
-enum-told c = search turns
+enum-told c = search one-turn-laws
 
 same-length : tie.Need-same-length
-same-length c = search turns
+same-length c = search one-turn-laws
 
 returns : tie.Need-returns
-returns c = search turns
+returns c = search one-turn-laws
 
 load-requires-2 : tie.Need-load-requires-2
-load-requires-2 c κs = search turns
+load-requires-2 c κs = search one-turn-laws
 
 enum-known-a : tie.Need-enum-known-a
-enum-known-a c = search turns
+enum-known-a c = search one-turn-laws
 
 enum-told-2 : tie.Need-enum-told-2
-enum-told-2 c = search turns
+enum-told-2 c = search one-turn-laws
 
 same-length-2 : tie.Need-same-length-2
-same-length-2 c = search turns
+same-length-2 c = search one-turn-laws
 
 returns-2 : tie.Need-returns-2
 returns-2 c =
     search (turn-no-left, c .before .before .load2 .ensures, c .enum-told2 .given .1)
 
 add-then-form : tie.Need-add-then-form
-add-then-form c = search turns
+add-then-form c = search one-turn-laws
 
 then-form-requires : tie.Need-then-form-requires
 then-form-requires c κs = (
@@ -65,7 +65,7 @@ then-form-requires c κs = (
 )
 
 enum-known-t : tie.Need-enum-known-t
-enum-known-t c = search turns
+enum-known-t c = search one-turn-laws
 
 note-form-requires : tie.Need-note-form-requires
 note-form-requires c κs =
@@ -77,13 +77,13 @@ note-form-requires c κs =
     )
 
 enum-told-3 : tie.Need-enum-told-3
-enum-told-3 c = search turns
+enum-told-3 c = search one-turn-laws
 
 enum-told-4 : tie.Need-enum-told-4
-enum-told-4 c = search turns
+enum-told-4 c = search one-turn-laws
 
 same-length-3 : tie.Need-same-length-3
-same-length-3 c = search turns
+same-length-3 c = search one-turn-laws
 
 returns-3 : tie.Need-returns-3
 returns-3 c =
@@ -102,7 +102,7 @@ returns-3 c =
     )
 
 same-length-4 : tie.Need-same-length-4
-same-length-4 c = search turns
+same-length-4 c = search one-turn-laws
 
 returns-4 : tie.Need-returns-4
 returns-4 c =
@@ -119,7 +119,7 @@ returns-4 c =
     )
 
 same-length-5 : tie.Need-same-length-5
-same-length-5 c = search turns
+same-length-5 c = search one-turn-laws
 
 returns-5 : tie.Need-returns-5
 returns-5 c =

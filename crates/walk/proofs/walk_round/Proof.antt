@@ -10,7 +10,7 @@ use borrow.Author.Needs.{needs}
 use Rattle.walk.specs.declared.Notes.{Notes}
 use Rattle.walk.proofs.ProgressLaws.{no-notes}
 use Rattle.walk.proofs.VisitLaws.{Going}
-use Rattle.walk.proofs.RoundLaws.{Lent, AtRule, rule-small, going-begun, left-choosable, right-choosable}
+use Rattle.walk.proofs.RoundLaws.{LentParts, AtRule, rule-small, going-begun, left-choosable, right-choosable}
 use Rattle.walk.proofs.RoundLaws.{stage-right, stage-left, stage-rule, stage-kept, stage-stop, round-end}
 use Rattle.walk.proofs.walk_round.Statement.{statement}
 use Rattle.walk.proofs.walk_round.Tie as tie
@@ -94,7 +94,7 @@ start-of c = start (to-rules c)
 -- ---- what is known there
 
 lent : (s : Start)
-    → Lent (s .args .states) (now (s .args .rules)) (now (s .args .schema)) (now (s .args .endings)) (s .args .empty) (s .args .useful)
+    → LentParts (s .args .states) (now (s .args .rules)) (now (s .args .schema)) (now (s .args .endings)) (s .args .empty) (s .args .useful)
 lent s =
     record {
       schooled = s .pre .0;
