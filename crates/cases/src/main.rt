@@ -244,8 +244,8 @@ fn least(a: usize, b: usize) -> usize
     if a < b { a } else { b }
 }
 
-// The worktable after a check: how many of the entries behind the rows, up to 5,120, are 0 and how many still hold what filled them; how many
-// past 5,120 do; and the rows, where they are few.
+// The worktable after a check: how many of the entries behind the rows, up to 5,120, are 0 and how many still hold what filled them; how
+// many past 5,120 do; and the rows, where they are few.
 fn show_table(table: &[u64], n: usize, images: usize, fill: u64) {
     let end = least(n, 5120);
     let rows = least(end, least(images, 256) * 20);

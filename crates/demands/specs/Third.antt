@@ -53,8 +53,8 @@ PassMeans f =
 abbrev pub BrokenMeans : List ℕ → Type 0
 BrokenMeans f = (w : List Tag) × Produces f w × (Valid (schemaOf f) w → ⊥)
 
--- "every other answer and its round are given exactly on the tree heights and totals": with a sound file, a table of 5,120 entries, a budget
--- from 1 to 257 and a start that derives some page
+-- "every other answer and its round are given exactly on the tree heights and totals": with a sound file, a table of 5,120 entries, a
+-- budget from 1 to 257 and a start that derives some page
 pub record Exact (f : List ℕ) (budget : ℕ) (r : CheckReply) : Type 0 where
   pub event-round : (k j : ℕ) → 1 ≤ k → k ≤ 4 → ((answer r ≡ k) × (number r ≡ j)) ↔ Decides (EventOf f) (NewOf f) budget (met j k)
   pub pass-round : (j : ℕ) → ((answer r ≡ 0) × (number r ≡ j)) ↔ Decides (EventOf f) (NewOf f) budget (passed j)
@@ -63,7 +63,8 @@ pub record Exact (f : List ℕ) (budget : ℕ) (r : CheckReply) : Type 0 where
 
 pub record ThirdDemand : Type 0 where
   pub pass-means : (f t t′ : List ℕ) (budget : ℕ) (r : CheckReply) → CheckSays f t budget r t′ → answer r ≡ 0 → PassMeans f
-  pub broken-means : (f t t′ : List ℕ) (budget : ℕ) (r : CheckReply) → CheckSays f t budget r t′ → (answer r ≡ 1) ⊎ (answer r ≡ 2) → BrokenMeans f
+  pub broken-means : (f t t′ : List ℕ) (budget : ℕ) (r : CheckReply) → CheckSays f t budget r t′ → (answer r ≡ 1) ⊎ (answer r ≡ 2)
+      → BrokenMeans f
   pub exact : (f t t′ : List ℕ) (budget : ℕ) (r : CheckReply) → CheckSays f t budget r t′ → 5120 ≤ length t → 1 ≤ budget → budget ≤ 257
       → IsSound f → HasPage f → Exact f budget r
   pub decided-at-257 : (f t t′ : List ℕ) (r : CheckReply) → CheckSays f t 257 r t′ → answer r ≡ 5 → ⊥

@@ -45,7 +45,8 @@ module _ (f bytes : List ℕ) where
   found-fragment (refused mismatch i) p a s e (d, k) = d ∙ sym (ap fragmentAnswerOf e)
   found-fragment (refused too-many i) p a s e (d, k) = d ∙ sym (ap fragmentAnswerOf e)
 
-  case-fragment : (p : PageReply) (a : FragmentAnswer) (s : Summary) → PageCase f bytes p → FragmentCase f bytes a s → a ≡ fragmentAnswerOf p
+  case-fragment : (p : PageReply) (a : FragmentAnswer) (s : Summary) → PageCase f bytes p → FragmentCase f bytes a s
+      → a ≡ fragmentAnswerOf p
   case-fragment p a s (inl (i, e, h)) (inl (j, d, k, z)) = k ∙ ap fragment.BadFile (cc (sym d ∙ e)) ∙ sym (ap fragmentAnswerOf h)
   case-fragment p a s (inl (i, e, h)) (inr (sound, x)) = absurd (sound-not-bad f i sound e)
   case-fragment p a s (inr (sound, x)) (inl (i, e, h, z)) = absurd (sound-not-bad f i sound e)

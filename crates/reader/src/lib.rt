@@ -50,7 +50,9 @@ pub fn then_byte(
 ) -> Feed
     requires { ⌜ Schooled states (now schema) (now endings) empty ⌝ }
     requires { ⌜ Holds ends starts (now names) (now values) ⌝ }
-    ensures { λ r. ⌜ Fed r (now (names .exit)) (now (values .exit)) (after-tag states (now (schema .entry)) (now (endings .entry)) ends starts (now (names .entry)) (now (values .entry))) known byte ⌝ }
+    ensures { λ r. ⌜ Fed r (now (names .exit)) (now (values .exit))
+        (after-tag states (now (schema .entry)) (now (endings .entry)) ends starts (now (names .entry)) (now (values .entry)))
+        known byte ⌝ }
 {
     let class = words::class_of(known, byte);
     match class {
@@ -104,7 +106,8 @@ pub fn read_bytes(
     requires { ⌜ EndsBelow states (now endings) ⌝ }
     requires { ⌜ Holds 0 0 (now names) (now values) ⌝ }
     requires { ⌜ getD (now values) 0 0 ≡ empty ⌝ }
-    ensures { λ r. ⌜ Progressed r (now (names .exit)) (now (values .exit)) (Reads known (relations 8 states (now (schema .entry)) (now (endings .entry))) 16 (now (bytes .entry))) ⌝ }
+    ensures { λ r. ⌜ Progressed r (now (names .exit)) (now (values .exit))
+        (Reads known (relations 8 states (now (schema .entry)) (now (endings .entry))) 16 (now (bytes .entry))) ⌝ }
 {
     let mut e = 0;
     let mut s = 0;

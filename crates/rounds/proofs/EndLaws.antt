@@ -32,7 +32,8 @@ walked-rest f t t′ n Stopped (l, rest, found) = rest
 walked-rest f t t′ n (Went m notes) (grown, happened, noted) = grown .same-rest
 
 -- the budget is used
-pub ends-used : {f t₀ t u : List ℕ} {budget r prev n : ℕ} → Lent f t₀ budget → IsSound f → HasPage f → AfterRound f t₀ t r prev n → budget ≤ r
+pub ends-used : {f t₀ t u : List ℕ} {budget r prev n : ℕ} → Lent f t₀ budget → IsSound f → HasPage f
+    → AfterRound f t₀ t r prev n → budget ≤ r
     → u ≡ cleared t 0 5120 → CheckSays f t₀ budget (check.OutOfRounds budget) u
 ends-used {f} {t₀} {t} {u} {budget} {r} {prev} {n} lent sound page state h e =
     (refl, (lent, sound, page, state-used f t₀ t r prev n budget state h), cleared-zeroed t₀ t (state .same-rest) u e)

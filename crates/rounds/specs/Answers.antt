@@ -1,7 +1,8 @@
 -- The check's reply in document 01's numbers ("Answer numbers"): the answer, the number returned, the images.
 use Prim.Native.Nat.{ℕ}
 use Rattle.rounds.specs.declared.CheckReply.{CheckReply}
-use Rattle.rounds.specs.declared.CheckReply.the-variants.{Passed, Mismatch, Invalid, TooDeep, Crowded, OutOfRounds, NoPage, BadFile, BadBudget, ShortTable}
+use Rattle.rounds.specs.declared.CheckReply.the-variants.{Passed, Mismatch, Invalid, TooDeep, Crowded, OutOfRounds}
+use Rattle.rounds.specs.declared.CheckReply.the-variants.{NoPage, BadFile, BadBudget, ShortTable}
 
 abbrev pub answer : CheckReply → ℕ
 answer (Passed r n) = 0

@@ -1,5 +1,5 @@
-// Reads one template file from standard input, checks it with budget 64, and prints one line: answer, number, images. The longest sound file
-// has 1,560 bytes; one byte more is read, so that a longer file is seen to be too long.
+// Reads one template file from standard input, checks it with budget 64, and prints one line: answer, number, images. The longest sound
+// file has 1,560 bytes; one byte more is read, so that a longer file is seen to be too long.
 use libc::STDIN_FILENO;
 use libc::STDOUT_FILENO;
 

@@ -19,7 +19,8 @@ pub enum Step {
 // A tag behind the n first, and the relation of the empty word behind it.
 fn put_tag(names: &mut [u8; 16], values: &mut [u64; 17], n: usize, name: u8, empty: u64)
     requires { ⌜ n < 16 ⌝ }
-    ensures { λ r. ⌜ (now (names .exit) ≡ set (now (names .entry)) n name) × (now (values .exit) ≡ set (now (values .entry)) (n + 1) empty) ⌝ }
+    ensures { λ r. ⌜ (now (names .exit) ≡ set (now (names .entry)) n name)
+        × (now (values .exit) ≡ set (now (values .entry)) (n + 1) empty) ⌝ }
 {
     names[n] = name;
     values[n + 1] = empty;
@@ -28,7 +29,8 @@ fn put_tag(names: &mut [u8; 16], values: &mut [u64; 17], n: usize, name: u8, emp
 // The last of n tags goes, and one relation takes the place of the two beside it.
 fn take_tag(names: &mut [u8; 16], values: &mut [u64; 17], n: usize, value: u64)
     requires { ⌜ (0 < n) × (n ≤ 16) ⌝ }
-    ensures { λ r. ⌜ (now (names .exit) ≡ set (now (names .entry)) (n - 1) 0) × (now (values .exit) ≡ set (set (now (values .entry)) n 0) (n - 1) value) ⌝ }
+    ensures { λ r. ⌜ (now (names .exit) ≡ set (now (names .entry)) (n - 1) 0)
+        × (now (values .exit) ≡ set (set (now (values .entry)) n 0) (n - 1) value) ⌝ }
 {
     names[n - 1] = 0;
     values[n] = 0;
@@ -60,7 +62,8 @@ fn meet(
     requires { ⌜ Schooled states (now schema) (now endings) empty ⌝ }
     requires { ⌜ Holds ends starts (now names) (now values) ⌝ }
     requires { ⌜ 0 < starts ⌝ }
-    ensures { λ r. ⌜ Stepped r (now (names .exit)) (now (values .exit)) (after-tag states (now (schema .entry)) (now (endings .entry)) ends starts (now (names .entry)) (now (values .entry)) (tagOf true name)) ⌝ }
+    ensures { λ r. ⌜ Stepped r (now (names .exit)) (now (values .exit))
+        (after-tag states (now (schema .entry)) (now (endings .entry)) ends starts (now (names .entry)) (now (values .entry)) (tagOf true name)) ⌝ }
 {
     let n = ends + starts;
     let open = names[n - 1];
@@ -87,7 +90,8 @@ pub fn then_tag(
 ) -> Step
     requires { ⌜ Schooled states (now schema) (now endings) empty ⌝ }
     requires { ⌜ Holds ends starts (now names) (now values) ⌝ }
-    ensures { λ r. ⌜ Stepped r (now (names .exit)) (now (values .exit)) (after-tag states (now (schema .entry)) (now (endings .entry)) ends starts (now (names .entry)) (now (values .entry)) (tagOf closes name)) ⌝ }
+    ensures { λ r. ⌜ Stepped r (now (names .exit)) (now (values .exit))
+        (after-tag states (now (schema .entry)) (now (endings .entry)) ends starts (now (names .entry)) (now (values .entry)) (tagOf closes name)) ⌝ }
 {
     let n = ends + starts;
     if closes {
@@ -141,7 +145,8 @@ fn turn(
 ) -> Step
     requires { ⌜ Schooled states (now schema) (now endings) empty ⌝ }
     requires { ⌜ Holds ends starts (now names) (now values) ⌝ }
-    ensures { λ r. ⌜ Stepped r (now (names .exit)) (now (values .exit)) (after-turn states (now (schema .entry)) (now (endings .entry)) ends starts (now (names .entry)) (now (values .entry)) (tagOf closes name) value) ⌝ }
+    ensures { λ r. ⌜ Stepped r (now (names .exit)) (now (values .exit))
+        (after-turn states (now (schema .entry)) (now (endings .entry)) ends starts (now (names .entry)) (now (values .entry)) (tagOf closes name) value) ⌝ }
 {
     let s = then_tag(
         schema,
@@ -184,7 +189,9 @@ pub fn then_form(
     requires { ⌜ Schooled states (now schema) (now endings) empty ⌝ }
     requires { ⌜ Holds ends starts (now names) (now values) ⌝ }
     requires { ⌜ count ≤ 16 ⌝ }
-    ensures { λ r. ⌜ Stepped r (now (names .exit)) (now (values .exit)) (after-form states (now (schema .entry)) (now (endings .entry)) ends starts (now (names .entry)) (now (values .entry)) closing (now (tags .entry)) (now (relations .entry)) count) ⌝ }
+    ensures { λ r. ⌜ Stepped r (now (names .exit)) (now (values .exit))
+        (after-form states (now (schema .entry)) (now (endings .entry)) ends starts (now (names .entry)) (now (values .entry))
+        closing (now (tags .entry)) (now (relations .entry)) count) ⌝ }
 {
     add_value(values, states, ends + starts, relations[0]);
     let mut e = ends;

@@ -1,4 +1,5 @@
--- A part of a file as the code cuts it out: from a place to an end, or nothing where the file ends before. Assumes nothing.
+-- A part of a file as the code cuts it out: from a place to an end, or nothing where the file ends before. Each law opens
+-- the definition and rewrites by the test of the end. Assumes nothing.
 use mathlib.Core.Path.{_≡_}
 use mathlib.Core.List.{List, []}
 use Prim.Native.Nat.{ℕ, _+_, _-_, _≤_, _<_}

@@ -4,7 +4,8 @@ ghost use mathlib.Core.List.{[], _∷_};
 ghost use Prim.Native.Nat.{_+_, _*_, _≤_, _<_};
 ghost use lib.ListN.{length};
 ghost use Rattle.template.specs.Layout.{halfAt, bodiesEnd, partOf};
-ghost use Rattle.template.specs.Order.{test, between, orThen, firstFault, headTests, contentsTests, isSymbol, symbolHolds, fieldTests, width, precedes, ascends, entryTests, bodyTests, bodies, shapeOf, reading};
+ghost use Rattle.template.specs.Order.{test, between, orThen, firstFault, headTests, contentsTests, isSymbol, symbolHolds};
+ghost use Rattle.template.specs.Order.{fieldTests, width, precedes, ascends, entryTests, bodyTests, bodies, shapeOf, reading};
 
 // Where the first fault is.
 pub enum Fault {

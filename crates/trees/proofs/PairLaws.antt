@@ -1,6 +1,6 @@
 -- Right sides of at most two symbols (specs/Results.antt), as two nested loops over forms meet them: a form at place 0 and one at place 1,
 -- joined. Joining to the empty word's form gives the first symbol's form back, a tag's step is joining the tag's own form, and where
--- there is no symbol the empty word's form joins to nothing new. Assumes nothing.
+-- there is no symbol the empty word's form joins to nothing new (words/proofs/JoinLaws.antt). Assumes nothing.
 use mathlib.Core.Path.{_≡_, refl, sym, _∙_}
 use mathlib.Core.List.{List, [], _∷_}
 use mathlib.Core.Logic.{_↔_}

@@ -40,7 +40,8 @@ module _ (states : ℕ) (rules schema endings : List ℕ) where
       let (p, q) = and-out (eqb x 0) e in
       (eqb-true x 0 p, λ v. false≢true (sym (not-true (isPage endings s c) q) ∙ valid-page s c v))
 
-  pub valid-start-form : (x : ℕ) (s : Stack ℕ) (c : ℕ) → invalidForm endings x s c ≡ false → x ≡ 0 → ValidForm states rules schema endings s c
+  pub valid-start-form : (x : ℕ) (s : Stack ℕ) (c : ℕ) → invalidForm endings x s c ≡ false → x ≡ 0
+      → ValidForm states rules schema endings s c
   unfolding invalidForm
   valid-start-form x s c e z = is-page-valid s c (not-false (isPage endings s c) (rw (eq-eqb x 0 z) at e))
 

@@ -15,7 +15,8 @@ ghost use Rattle.stack.specs.Steps.{Schooled, Holds};
 ghost use Rattle.rows.specs.Packed.{nonterminalIn, RowOf};
 ghost use Rattle.useful.specs.Marks.{Ruled, MarksAll};
 ghost use Rattle.walk.specs.Slots.{slotOf, leftSlot, rightSlot, choices, newFrom, rowAt};
-ghost use Rattle.walk.specs.Turns.{slotFits, leftsOf, rightFrom, SomePairRow, Choosable, TagForm, FormOf, Loads, isPage, invalidForm, FormNoted, Turned};
+ghost use Rattle.walk.specs.Turns.{slotFits, leftsOf, rightFrom, SomePairRow, Choosable, TagForm, FormOf, Loads};
+ghost use Rattle.walk.specs.Turns.{isPage, invalidForm, FormNoted, Turned};
 ghost use Rattle.walk.specs.Walks.{Tidy, Ready, Walked};
 
 // What stands at a place of a rule's right side: nothing, a tag, or the rows of a nonterminal.
@@ -232,7 +233,9 @@ fn note_form(
     requires { ⌜ Holds ends starts (now names) (now values) ⌝ }
     requires { ⌜ 5120 ≤ length (now table) ⌝ }
     requires { ⌜ m ≤ 256 ⌝ }
-    ensures { λ r. ⌜ FormNoted (now (endings .entry)) x (stackOf ends (now (names .entry)) (now (values .entry)) (ends + starts)) (getD (now (values .entry)) (ends + starts) 0) (now (table .entry)) m notes r (now (table .exit)) ⌝ }
+    ensures { λ r. ⌜ FormNoted (now (endings .entry)) x
+        (stackOf ends (now (names .entry)) (now (values .entry)) (ends + starts))
+        (getD (now (values .entry)) (ends + starts) 0) (now (table .entry)) m notes r (now (table .exit)) ⌝ }
 {
     let invalid = notes.invalid | invalid_form(endings, x, ends, starts, values[ends + starts]);
     let bytes = own(names);
@@ -288,7 +291,8 @@ fn one_turn(
     requires { ⌜ Choosable (now table) right k ⌝ }
     requires { ⌜ 5120 ≤ length (now table) ⌝ }
     requires { ⌜ m ≤ 256 ⌝ }
-    ensures { λ r. ⌜ Turned states (now (schema .entry)) (now (endings .entry)) empty (now (table .entry)) left j right k x m notes r (now (table .exit)) ⌝ }
+    ensures { λ r. ⌜ Turned states (now (schema .entry)) (now (endings .entry)) empty (now (table .entry))
+        left j right k x m notes r (now (table .exit)) ⌝ }
 {
     let mut tags = [0u8; 16];
     let mut relations = [0u64; 17];
@@ -382,7 +386,8 @@ pub fn walk_round(
     requires { ⌜ MarksAll useful (Useful (Gives (now rules))) ⌝ }
     requires { ⌜ Tidy states (now rules) (now schema) (now endings) (now table) n ⌝ }
     requires { ⌜ Ready states (now rules) (now schema) (now endings) (now table) prev n first ⌝ }
-    ensures { λ r. ⌜ Walked states (now (rules .entry)) (now (schema .entry)) (now (endings .entry)) (now (table .entry)) n r (now (table .exit)) ⌝ }
+    ensures { λ r. ⌜ Walked states (now (rules .entry)) (now (schema .entry)) (now (endings .entry)) (now (table .entry)) n r
+        (now (table .exit)) ⌝ }
 {
     let mut m = n;
     let mut notes = Notes {

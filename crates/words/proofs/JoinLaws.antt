@@ -1,6 +1,7 @@
 -- Joining is reading on (specs/Reader.antt): a word is read from any outcome as its reduced form is joined to that outcome, tag by tag
 -- and value by value. So joining the forms of two words gives the form of the two in a row, or they are mismatched in a row. Forms that
--- no word has are joined in the same way, and what joining keeps of them is shown too. Assumes nothing.
+-- no word has are joined in the same way, and what joining keeps of them is shown too, and that the forms of no tag and of one tag join
+-- as nothing and as that tag. Assumes nothing.
 use mathlib.Core.Path.{_≡_, refl, _∙_, subst}
 use mathlib.Core.List.{List, _++_}
 use mathlib.Core.Logic.{_↔_}

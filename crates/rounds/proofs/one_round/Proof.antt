@@ -42,8 +42,8 @@ returns c =
     let w = a .before .before .before in
     let e = w .before in
     let s = e .before .before .before .before .before in
-    part-walked _ _ (s .pre .0) _ (e .before .before .template-rules .ensures) _ _ _ (w .wide .ensures .0) (e .before .schema-rules .ensures)
-    (e .ending-states .ensures) (now (s .args .table)) (a .walk-round .last .1 .1 .1 .1 .1 .1 .0) (s .args .n) (a .walk-round .result)
+    part-walked _ _ (s .pre .0) _ (e .before .before .template-rules .ensures) _ _ _ (w .wide .ensures .0)
+    (e .before .schema-rules .ensures) (e .ending-states .ensures) (now (s .args .table)) (a .walk-round .last .1 .1 .1 .1 .1 .1 .0) (s .args .n) (a .walk-round .result)
     (a .walk-round .ensures)
 
 pub one-round-spec : {M : Type 1} → statement M
