@@ -9,7 +9,7 @@ use lib.ListN.{length, drop}
 use Rattle.template.specs.Order.{IsSound}
 use Rattle.trees.specs.Verdict.{met}
 use Rattle.rows.specs.Tables.{rowsOf, tableOf, sorted, cleared}
-use Rattle.walk.specs.declared.Notes.{Notes}
+use Rattle.turns.specs.declared.Notes.{Notes}
 use Rattle.walk.specs.declared.Walk.{Walk}
 use Rattle.walk.specs.declared.Walk.the-variants.{Stopped, Went}
 use Rattle.rounds.specs.declared.CheckReply.the-variants as check

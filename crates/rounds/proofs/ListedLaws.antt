@@ -11,7 +11,7 @@ use Rattle.trees.specs.Events.{Pair, Distinct, distinct-none, distinct-more}
 use Rattle.rows.specs.Tables.{rowAt}
 use Rattle.rows.proofs.TableLaws.{Differing}
 use Rattle.rows.proofs.RowLaws.{row-pair, pair-row}
-use Rattle.walk.specs.Slots.{PairRow, Tabled}
+use Rattle.turns.specs.Slots.{PairRow, Tabled}
 
 -- a row packs one pair, and a pair has one row
 pub row-one-pair : (row : List ℕ) (p q : Pair ℕ) → PairRow row p → PairRow row q → p ≡ q

@@ -14,7 +14,7 @@ use Rattle.trees.specs.Events.{Pair, Mismatch, InvalidPage, TooDeep, Crowded}
 use Rattle.trees.specs.Results.{Result}
 use Rattle.trees.specs.Verdict.{Quiet}
 use Rattle.trees.proofs.RoundLaws.{InvalidOutcome, result-same, next-image, next-mismatch, next-deep, next-invalid}
-use Rattle.walk.specs.Slots.{Tabled}
+use Rattle.turns.specs.Slots.{Tabled}
 use Rattle.walk.specs.Walks.{ResultOver}
 use Rattle.rounds.specs.Checks.{RuleOf, ImageOf, EventOf, NewOf}
 use Rattle.rounds.proofs.FormLaws.{PageForm, valid-form, valid-balanced}

@@ -17,9 +17,9 @@ use Rattle.trees.proofs.EventLaws.{image-later}
 use Rattle.trees.proofs.RoundLaws.{InvalidOutcome}
 use Rattle.trees.proofs.TableLaws.{row-more-crowded, rows-not-crowded}
 use Rattle.rows.specs.Tables.{rowAt}
-use Rattle.walk.specs.Slots.{PairRow, Tabled}
+use Rattle.turns.specs.Slots.{PairRow, Tabled}
 use Rattle.walk.specs.Walks.{Grown, Happened, Noted}
-use Rattle.walk.specs.declared.Notes.{Notes}
+use Rattle.turns.specs.declared.Notes.{Notes}
 use Rattle.walk.specs.declared.Walk.the-variants.{Stopped, Went}
 use Rattle.rounds.specs.Checks.{ImageOf, EventOf, NewOf}
 use Rattle.rounds.specs.Walking.{WalkedUnder}

@@ -16,7 +16,7 @@ use Rattle.trees.specs.Trees.{Productive}
 use Rattle.trees.specs.Events.{Pair, Image, Event, New}
 use Rattle.trees.specs.Verdict.{Decision, met, passed, used, Decides}
 use Rattle.rows.specs.Tables.{flat, Ascending}
-pub use Rattle.walk.specs.Slots.{PairRow}
+pub use Rattle.turns.specs.Slots.{PairRow}
 use Rattle.rounds.specs.declared.CheckReply.{CheckReply}
 use Rattle.rounds.specs.declared.CheckReply.the-variants as check
 

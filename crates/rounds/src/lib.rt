@@ -34,7 +34,7 @@ pub enum Event {
 }
 
 // The event that the notes of a walk tell.
-fn event_of(notes: walk::Notes) -> Event
+fn event_of(notes: turns::Notes) -> Event
     ensures { λ r. ⌜ Tells notes r ⌝ }
 {
     if notes.invalid {

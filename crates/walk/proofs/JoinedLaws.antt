@@ -13,13 +13,13 @@ use Rattle.hedge.specs.Schema.{field, RulesBelow, EndsBelow}
 use Rattle.hedge.specs.Operations.{relations, unit}
 use Rattle.template.specs.Grammar.{Gives}
 use Rattle.trees.specs.Trees.{Useful}
-use Rattle.walk.specs.Slots.{rowAt, leftSlot, rightSlot, Choice, choices}
+use Rattle.turns.specs.Slots.{rowAt, leftSlot, rightSlot, Choice, choices}
 use Rattle.walk.specs.Walks.{ResultOver, Walked}
-use Rattle.walk.specs.Turns.{FormOf, Turned, no-forms, joined}
-use Rattle.walk.specs.declared.Slot.{Slot}
-use Rattle.walk.specs.declared.Notes.{Notes}
-use Rattle.walk.specs.declared.Turn.{Turn}
-use Rattle.walk.specs.declared.Turn.the-variants.{Kept, Mismatch}
+use Rattle.turns.specs.Turns.{FormOf, Turned, no-forms, joined}
+use Rattle.turns.specs.declared.Slot.{Slot}
+use Rattle.turns.specs.declared.Notes.{Notes}
+use Rattle.turns.specs.declared.Turn.{Turn}
+use Rattle.turns.specs.declared.Turn.the-variants.{Kept, Mismatch}
 use Rattle.walk.specs.declared.Walk.the-variants.{Stopped}
 use Rattle.walk.proofs.SlotLaws.{choice-form, choice-same}
 use Rattle.walk.proofs.PairingLaws.{Pairing, pairing-result, pairing-proper, pairing-unique}

@@ -5,7 +5,4 @@ pub mod ProgressLaws
 pub mod OutcomeLaws
 pub mod VisitLaws
 pub mod JoinedLaws
-pub mod LoadLaws
-pub mod NoteLaws
-pub mod TurnLaws
 pub mod RoundLaws

@@ -19,13 +19,13 @@ use Rattle.rows.specs.Packed.{RowOf}
 use Rattle.rows.proofs.OrderLaws.{among-member, not-among}
 use Rattle.rows.proofs.TableLaws.{row-member, member-row, add-before, add-last, add-length, add-rest}
 use Rattle.rows.proofs.RowLaws.{row-length, pair-row}
-use Rattle.walk.specs.Slots.{rowAt, Tabled}
+use Rattle.turns.specs.Slots.{rowAt, Tabled}
 use Rattle.walk.specs.Walks.{ValidForm, Proper, Tidy, Noted}
-use Rattle.walk.specs.Turns.{invalidForm, afterForm, FormNoted, OutcomeNoted}
-use Rattle.walk.specs.Turns.{stands, finds-no-room, goes-behind, mismatches, is-deep, is-form}
-use Rattle.walk.specs.declared.Notes.{Notes}
-use Rattle.walk.specs.declared.Turn.{Turn}
-use Rattle.walk.specs.declared.Turn.the-variants.{Kept, Mismatch}
+use Rattle.turns.specs.Turns.{invalidForm, afterForm, FormNoted, OutcomeNoted}
+use Rattle.turns.specs.Turns.{stands, finds-no-room, goes-behind, mismatches, is-deep, is-form}
+use Rattle.turns.specs.declared.Notes.{Notes}
+use Rattle.turns.specs.declared.Turn.{Turn}
+use Rattle.turns.specs.declared.Turn.the-variants.{Kept, Mismatch}
 use Rattle.walk.proofs.ValidLaws.{or-false-left, or-false-right, invalid-form, valid-start-form, deep-invalid}
 use Rattle.walk.proofs.ProgressLaws.{below-next, Later, tabled-later, noted-later, Sofar}
 

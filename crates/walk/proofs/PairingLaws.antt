@@ -20,7 +20,7 @@ use Rattle.trees.specs.Trees.{Useful}
 use Rattle.trees.specs.Events.{Pair}
 use Rattle.trees.proofs.PairLaws.{GoodForm, form-good, result-pair}
 use Rattle.rows.proofs.RowLaws.{row-pair}
-use Rattle.walk.specs.Slots.{rowAt, PairRow, Tabled, leftSlot, rightSlot, Choice, choices, newFrom}
+use Rattle.turns.specs.Slots.{rowAt, PairRow, Tabled, leftSlot, rightSlot, Choice, choices, newFrom}
 use Rattle.walk.specs.Walks.{ResultOver, Proper}
 use Rattle.walk.proofs.SlotLaws.{left-forms, right-forms, choice-unique, choice-old}
 

@@ -14,14 +14,14 @@ use Rattle.template.specs.Grammar.{Gives}
 use Rattle.stack.specs.Steps.{Schooled}
 use Rattle.trees.specs.Trees.{Useful}
 use Rattle.useful.specs.Marks.{Ruled, MarksAll}
-use Rattle.walk.specs.Slots.{leftSlot, rightSlot, choices, newFrom}
+use Rattle.turns.specs.Slots.{leftSlot, rightSlot, choices, newFrom}
 use Rattle.walk.specs.Walks.{Tidy, Ready, Walked}
-use Rattle.walk.specs.Turns.{slotFits, leftsOf, rightFrom, Choosable, Turned}
-use Rattle.walk.specs.declared.Slot.{Slot}
-use Rattle.walk.specs.declared.Slot.the-variants.{Absent, Single, Rows}
-use Rattle.walk.specs.declared.Notes.{Notes}
-use Rattle.walk.specs.declared.Turn.{Turn}
-use Rattle.walk.specs.declared.Turn.the-variants.{Kept, Mismatch}
+use Rattle.turns.specs.Turns.{slotFits, leftsOf, rightFrom, Choosable, Turned}
+use Rattle.turns.specs.declared.Slot.{Slot}
+use Rattle.turns.specs.declared.Slot.the-variants.{Absent, Single, Rows}
+use Rattle.turns.specs.declared.Notes.{Notes}
+use Rattle.turns.specs.declared.Turn.{Turn}
+use Rattle.turns.specs.declared.Turn.the-variants.{Kept, Mismatch}
 use Rattle.walk.specs.declared.Walk.the-variants.{Stopped, Went}
 use Rattle.walk.proofs.ProgressLaws.{no-notes}
 use Rattle.walk.proofs.VisitLaws.{Going, going-start, right-start, right-end, left-end, walk-end}

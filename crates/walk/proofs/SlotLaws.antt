@@ -16,12 +16,12 @@ use Rattle.hedge.specs.Schema.{field}
 use Rattle.hedge.specs.Operations.{relations, unit}
 use Rattle.template.specs.Grammar.{tag, nonterminal, pickSymbol, symbolOf, rightSide}
 use Rattle.trees.specs.Results.{SymbolForm, FormAt}
-use Rattle.walk.specs.Slots.{Tabled, pickSlot, slotOf, leftSlot, rightSlot, Choice, choices, newFrom, rowAt}
+use Rattle.turns.specs.Slots.{Tabled, pickSlot, slotOf, leftSlot, rightSlot, Choice, choices, newFrom, rowAt}
 use Rattle.rows.specs.Packed.{nonterminalIn}
 use Rattle.rows.proofs.RowLaws.{row-pair, row-nonterminal}
-use Rattle.walk.specs.Turns.{slotFits, FormOf}
-use Rattle.walk.specs.declared.Slot.{Slot}
-use Rattle.walk.specs.declared.Slot.the-variants.{Absent, Single, Rows}
+use Rattle.turns.specs.Turns.{slotFits, FormOf}
+use Rattle.turns.specs.declared.Slot.{Slot}
+use Rattle.turns.specs.declared.Slot.the-variants.{Absent, Single, Rows}
 
 -- some choice of the slot is this form
 abbrev pub Chosen : ℕ → List ℕ → ℕ → Slot → Stack ℕ → ℕ → Type 0

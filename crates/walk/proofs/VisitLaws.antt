@@ -18,10 +18,10 @@ use Rattle.hedge.specs.Operations.{unit}
 use Rattle.template.specs.Grammar.{Gives}
 use Rattle.trees.specs.Trees.{Useful}
 use Rattle.useful.specs.Marks.{MarksAll}
-use Rattle.walk.specs.Slots.{rowAt, leftSlot, rightSlot, Choice, choices, newFrom}
+use Rattle.turns.specs.Slots.{rowAt, leftSlot, rightSlot, Choice, choices, newFrom}
 use Rattle.walk.specs.Walks.{ResultOver, Tidy, Ready, Noted, Walked}
-use Rattle.walk.specs.Turns.{slotFits, leftsOf, rightFrom}
-use Rattle.walk.specs.declared.Notes.{Notes}
+use Rattle.turns.specs.Turns.{slotFits, leftsOf, rightFrom}
+use Rattle.turns.specs.declared.Notes.{Notes}
 use Rattle.walk.specs.declared.Walk.the-variants.{Went}
 use Rattle.walk.proofs.SlotLaws.{choice-fits, choice-same, none-old}
 use Rattle.walk.proofs.PairingLaws.{Pairing, result-pairing, pairing-result, pairing-old}

@@ -14,8 +14,8 @@ use Rattle.template.specs.Grammar.{Gives}
 use Rattle.trees.specs.Trees.{Useful}
 use Rattle.trees.specs.Events.{Pair}
 use Rattle.trees.specs.Results.{Result}
-use Rattle.walk.specs.Slots.{rowAt, PairRow, Tabled}
-use Rattle.walk.specs.declared.Notes.{Notes}
+use Rattle.turns.specs.Slots.{rowAt, PairRow, Tabled}
+use Rattle.turns.specs.declared.Notes.{Notes}
 use Rattle.walk.specs.declared.Walk.{Walk}
 use Rattle.walk.specs.declared.Walk.the-variants.{Stopped, Went}
 

@@ -1,5 +1,5 @@
 -- All left choices where the left side is marked, else none (LoadLaws). Assumes nothing.
-use Rattle.walk.proofs.LoadLaws.{loads}
+use Rattle.turns.proofs.LoadLaws.{loads}
 use Rattle.walk.proofs.lefts_of.Statement.{statement}
 use Rattle.walk.proofs.lefts_of.Tie as tie
 

@@ -19,9 +19,9 @@ use Rattle.stack.proofs.HeldLaws.{tags-held}
 use Rattle.rows.specs.Tables.{rowsOf, tableOf, among}
 use Rattle.rows.specs.Packed.{packed, RowOf}
 use Rattle.rows.proofs.PackedLaws.{packed-row}
-use Rattle.walk.specs.Turns.{isPage, invalidForm, FormNoted, stands, finds-no-room, goes-behind}
-use Rattle.walk.specs.declared.Notes.{Notes}
-use Rattle.walk.specs.declared.Turn.the-variants.{Kept}
+use Rattle.turns.specs.Turns.{isPage, invalidForm, FormNoted, stands, finds-no-room, goes-behind}
+use Rattle.turns.specs.declared.Notes.{Notes}
+use Rattle.turns.specs.declared.Turn.the-variants.{Kept}
 
 -- ---- the test of a page
 

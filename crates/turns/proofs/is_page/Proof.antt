@@ -1,7 +1,7 @@
 -- A form with tags is no page's; without tags its relation decides (NoteLaws). Assumes nothing.
-use Rattle.walk.proofs.NoteLaws.{notes}
-use Rattle.walk.proofs.is_page.Statement.{statement}
-use Rattle.walk.proofs.is_page.Tie as tie
+use Rattle.turns.proofs.NoteLaws.{notes}
+use Rattle.turns.proofs.is_page.Statement.{statement}
+use Rattle.turns.proofs.is_page.Tie as tie
 
 add-if1 : tie.Need-add-if1
 add-if1 c = search notes

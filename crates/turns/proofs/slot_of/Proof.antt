@@ -1,7 +1,7 @@
 -- Three tests decide the slot of a byte (LoadLaws). Assumes nothing.
-use Rattle.walk.proofs.LoadLaws.{loads}
-use Rattle.walk.proofs.slot_of.Statement.{statement}
-use Rattle.walk.proofs.slot_of.Tie as tie
+use Rattle.turns.proofs.LoadLaws.{loads}
+use Rattle.turns.proofs.slot_of.Statement.{statement}
+use Rattle.turns.proofs.slot_of.Tie as tie
 
 returns : tie.Need-returns
 returns c = search loads

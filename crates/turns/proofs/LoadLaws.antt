@@ -19,12 +19,12 @@ use Rattle.stack.proofs.TurnLaws.{holds-value}
 use Rattle.rows.specs.Packed.{nonterminalIn, endsIn, startsIn, namesIn, RowOf}
 use Rattle.rows.proofs.RowLaws.{row-nonterminal, row-holds, row-form, row-last}
 use Rattle.rows.proofs.TableLaws.{row-part}
-use Rattle.walk.specs.Slots.{rowAt, slotOf, leftSlot, rightSlot}
-use Rattle.walk.specs.Turns.{slotFits, leftsOf, rightFrom, SomePairRow, Choosable, TagForm, FormOf, Loads}
-use Rattle.walk.specs.declared.Slot.{Slot}
-use Rattle.walk.specs.declared.Slot.the-variants.{Absent, Single, Rows}
-use Rattle.walk.specs.declared.Loaded.{Loaded}
-use Rattle.walk.specs.declared.Loaded.the-variants.{Form, Nothing}
+use Rattle.turns.specs.Slots.{rowAt, slotOf, leftSlot, rightSlot}
+use Rattle.turns.specs.Turns.{slotFits, leftsOf, rightFrom, SomePairRow, Choosable, TagForm, FormOf, Loads}
+use Rattle.turns.specs.declared.Slot.{Slot}
+use Rattle.turns.specs.declared.Slot.the-variants.{Absent, Single, Rows}
+use Rattle.turns.specs.declared.Loaded.{Loaded}
+use Rattle.turns.specs.declared.Loaded.the-variants.{Form, Nothing}
 
 -- ---- the slot of a byte
 

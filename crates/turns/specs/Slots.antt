@@ -11,8 +11,8 @@ use Rattle.stack.specs.Held.{tagOf}
 use Rattle.trees.specs.Events.{Pair}
 pub use Rattle.rows.specs.Tables.{rowAt}
 use Rattle.rows.specs.Packed.{RowOf}
-use Rattle.walk.specs.declared.Slot.{Slot}
-use Rattle.walk.specs.declared.Slot.the-variants.{Absent, Single, Rows}
+use Rattle.turns.specs.declared.Slot.{Slot}
+use Rattle.turns.specs.declared.Slot.the-variants.{Absent, Single, Rows}
 
 -- the row packs the pair
 abbrev pub PairRow : List ℕ → Pair ℕ → Type 0

@@ -1,7 +1,7 @@
 -- Only a form of the start can be an invalid page (NoteLaws). Assumes nothing.
-use Rattle.walk.proofs.NoteLaws.{notes}
-use Rattle.walk.proofs.invalid_form.Statement.{statement}
-use Rattle.walk.proofs.invalid_form.Tie as tie
+use Rattle.turns.proofs.NoteLaws.{notes}
+use Rattle.turns.proofs.invalid_form.Statement.{statement}
+use Rattle.turns.proofs.invalid_form.Tie as tie
 
 is-page-requires : tie.Need-is-page-requires
 is-page-requires c κs = search notes

@@ -1,7 +1,7 @@
 -- The row is a part of the table, and its nonterminal is read off it (LoadLaws). Assumes nothing.
-use Rattle.walk.proofs.LoadLaws.{loads}
-use Rattle.walk.proofs.row_fits.Statement.{statement}
-use Rattle.walk.proofs.row_fits.Tie as tie
+use Rattle.turns.proofs.LoadLaws.{loads}
+use Rattle.turns.proofs.row_fits.Statement.{statement}
+use Rattle.turns.proofs.row_fits.Tie as tie
 
 mul-at : tie.Need-mul-at
 mul-at c = search loads

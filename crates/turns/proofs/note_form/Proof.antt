@@ -1,7 +1,7 @@
 -- The row of the form is packed from bytes, looked for, and put behind the others where there is room (NoteLaws). Assumes nothing.
-use Rattle.walk.proofs.NoteLaws.{notes}
-use Rattle.walk.proofs.note_form.Statement.{statement}
-use Rattle.walk.proofs.note_form.Tie as tie
+use Rattle.turns.proofs.NoteLaws.{notes}
+use Rattle.turns.proofs.note_form.Statement.{statement}
+use Rattle.turns.proofs.note_form.Tie as tie
 
 add-invalid-form : tie.Need-add-invalid-form
 add-invalid-form c = search notes

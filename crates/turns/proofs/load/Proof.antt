@@ -1,7 +1,7 @@
 -- By the slot: the empty form, a tag's own, or a row's (LoadLaws). Assumes nothing.
-use Rattle.walk.proofs.LoadLaws.{loads}
-use Rattle.walk.proofs.load.Statement.{statement}
-use Rattle.walk.proofs.load.Tie as tie
+use Rattle.turns.proofs.LoadLaws.{loads}
+use Rattle.turns.proofs.load.Statement.{statement}
+use Rattle.turns.proofs.load.Tie as tie
 
 enum-told : tie.Need-enum-told
 enum-told c = search loads

@@ -20,13 +20,13 @@ use Rattle.stack.specs.declared.Step.{Step}
 use Rattle.stack.specs.declared.Step.the-variants as steps
 use Rattle.stack.proofs.TagLaws.{holds-none}
 use Rattle.stack.proofs.FormLaws.{form-limit}
-use Rattle.walk.specs.Turns.{FormOf, Loads, FormNoted, OutcomeNoted, Turned, mismatches, is-deep, is-form, no-forms, joined}
-use Rattle.walk.specs.declared.Slot.{Slot}
-use Rattle.walk.specs.declared.Notes.{Notes}
-use Rattle.walk.specs.declared.Loaded.{Loaded}
-use Rattle.walk.specs.declared.Loaded.the-variants.{Form, Nothing}
-use Rattle.walk.specs.declared.Turn.{Turn}
-use Rattle.walk.specs.declared.Turn.the-variants.{Kept, Mismatch}
+use Rattle.turns.specs.Turns.{FormOf, Loads, FormNoted, OutcomeNoted, Turned, mismatches, is-deep, is-form, no-forms, joined}
+use Rattle.turns.specs.declared.Slot.{Slot}
+use Rattle.turns.specs.declared.Notes.{Notes}
+use Rattle.turns.specs.declared.Loaded.{Loaded}
+use Rattle.turns.specs.declared.Loaded.the-variants.{Form, Nothing}
+use Rattle.turns.specs.declared.Turn.{Turn}
+use Rattle.turns.specs.declared.Turn.the-variants.{Kept, Mismatch}
 
 -- ---- arrays of zeros
 

@@ -1,9 +1,9 @@
 -- The two choices are loaded and joined, and the join's answer under the limit is noted (TurnLaws). Facts are named by their places, for
 -- there are more of them than a search goes through. Assumes nothing.
 use Rattle.stack.proofs.TurnLaws.{kept-holds}
-use Rattle.walk.proofs.TurnLaws.{one-turn-laws, loaded-holds, loaded-room, turn-no-left, turn-form, turn-mismatch, turn-deep}
-use Rattle.walk.proofs.one_turn.Statement.{statement}
-use Rattle.walk.proofs.one_turn.Tie as tie
+use Rattle.turns.proofs.TurnLaws.{one-turn-laws, loaded-holds, loaded-room, turn-no-left, turn-form, turn-mismatch, turn-deep}
+use Rattle.turns.proofs.one_turn.Statement.{statement}
+use Rattle.turns.proofs.one_turn.Tie as tie
 
 -- from the call of `then_form` back to where the left and the right choice were told and loaded, and to the start
 abbrev left : tie.After-relations2 → tie.After-a

@@ -1,7 +1,7 @@
 -- Unpacking reads the arrays of the pair that the row packs, and a row of another nonterminal packs none of x (LoadLaws). Assumes nothing.
-use Rattle.walk.proofs.LoadLaws.{loads}
-use Rattle.walk.proofs.load_row.Statement.{statement}
-use Rattle.walk.proofs.load_row.Tie as tie
+use Rattle.turns.proofs.LoadLaws.{loads}
+use Rattle.turns.proofs.load_row.Statement.{statement}
+use Rattle.turns.proofs.load_row.Tie as tie
 
 row-fits-requires : tie.Need-row-fits-requires
 row-fits-requires c κs = search loads

@@ -14,14 +14,14 @@ use Rattle.stack.specs.Steps.{Holds}
 use Rattle.trees.specs.Events.{Pair}
 use Rattle.rows.specs.Tables.{rowsOf, tableOf, among}
 use Rattle.rows.specs.Packed.{nonterminalIn, RowOf}
-use Rattle.walk.specs.Slots.{rowAt, PairRow}
-use Rattle.walk.specs.declared.Slot.{Slot}
-use Rattle.walk.specs.declared.Slot.the-variants.{Absent, Single, Rows}
-use Rattle.walk.specs.declared.Notes.{Notes}
-use Rattle.walk.specs.declared.Loaded.{Loaded}
-use Rattle.walk.specs.declared.Loaded.the-variants.{Form, Nothing}
-use Rattle.walk.specs.declared.Turn.{Turn}
-use Rattle.walk.specs.declared.Turn.the-variants.{Kept, Mismatch}
+use Rattle.turns.specs.Slots.{rowAt, PairRow}
+use Rattle.turns.specs.declared.Slot.{Slot}
+use Rattle.turns.specs.declared.Slot.the-variants.{Absent, Single, Rows}
+use Rattle.turns.specs.declared.Notes.{Notes}
+use Rattle.turns.specs.declared.Loaded.{Loaded}
+use Rattle.turns.specs.declared.Loaded.the-variants.{Form, Nothing}
+use Rattle.turns.specs.declared.Turn.{Turn}
+use Rattle.turns.specs.declared.Turn.the-variants.{Kept, Mismatch}
 
 -- ---- which choices are joined
 

@@ -1,7 +1,7 @@
 -- The tag goes behind no others, with the empty word's relation before and after it (LoadLaws). Assumes nothing.
-use Rattle.walk.proofs.LoadLaws.{loads}
-use Rattle.walk.proofs.load_tag.Statement.{statement}
-use Rattle.walk.proofs.load_tag.Tie as tie
+use Rattle.turns.proofs.LoadLaws.{loads}
+use Rattle.turns.proofs.load_tag.Statement.{statement}
+use Rattle.turns.proofs.load_tag.Tie as tie
 
 element-write-names : tie.Need-element-write-names
 element-write-names c = search loads

@@ -1,0 +1,3 @@
+pub mod LoadLaws
+pub mod NoteLaws
+pub mod TurnLaws
