@@ -15,8 +15,7 @@ use Rattle.words.specs.Classes.{Classed}
 use Rattle.words.specs.declared.Class.{Class}
 use Rattle.words.specs.declared.Class.the-variants.{Start, End, NoTag}
 use Rattle.words.proofs.ClassLaws.{start-spelled, end-spelled, low-unspelled, high-unspelled, past-unspelled}
-use Rattle.reader.specs.Reads.{Found, whole, refused, no-tag, mismatch, too-many}
-use Rattle.reader.specs.Reads.{Form, AllReadable, Reads, reads-all, reads-to, by-no-tag}
+use Rattle.reader.specs.Reads.{Found, whole, refused, no-tag, mismatch, too-many, Form, AllReadable, Reads, reads-all, reads-to, by-no-tag}
 use Rattle.reader.proofs.FormLaws.{form-empty}
 use Rattle.reader.proofs.ReadsLaws.{all-readable-none}
 use Rattle.reader.proofs.NextLaws.{AfterByte, after-step}

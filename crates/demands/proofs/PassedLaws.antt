@@ -8,14 +8,13 @@ use Prim.Native.Nat.{ℕ, pred}
 use Rattle.words.specs.Tags.{Tag}
 use Rattle.words.specs.Balance.{Mismatched}
 use Rattle.words.specs.Reduced.{Stack, Reduced}
-use Rattle.words.proofs.MismatchLaws.{one-of}
+use Rattle.words.proofs.MismatchLaws.{one-of, balanced-not-mismatched}
 use Rattle.hedge.specs.Schema.{Valid}
 use Rattle.template.specs.Order.{IsSound}
 use Rattle.summary.specs.Fragments.{schemaOf, binoidOf}
 use Rattle.summary.proofs.ShapeLaws.{lawsOf}
 use Rattle.trees.specs.Events.{Pair}
 use Rattle.trees.specs.Verdict.{Decides, passed}
-use Rattle.words.proofs.MismatchLaws.{balanced-not-mismatched}
 use Rattle.trees.proofs.VerdictLaws.{pass-valid}
 use Rattle.rounds.specs.Checks.{PairRow, RuleOf, ImageOf, EventOf, NewOf, Rows}
 use Rattle.rounds.proofs.ListedLaws.{row-one-pair}

@@ -19,8 +19,7 @@ use Rattle.summary.specs.declared.JoinAnswer.the-variants as joined
 use Rattle.summary.specs.Fragments.{binoidOf, ReadUnder, FragmentAnswers}
 use Rattle.summary.specs.Answers.{fragmentAnswer, joinAnswer}
 use Rattle.summary.proofs.ShapeLaws.{lawsOf, sound-not-bad}
-use Rattle.summary.proofs.MeaningLaws.{fragment-sound, fragment-summary-of}
-use Rattle.summary.proofs.MeaningLaws.{joined-iff, joined-summary-of, mismatch-iff, deep-iff}
+use Rattle.summary.proofs.MeaningLaws.{fragment-sound, fragment-summary-of, joined-iff, joined-summary-of, mismatch-iff, deep-iff}
 use Rattle.page.specs.declared.PageReply.{PageReply}
 use Rattle.page.specs.declared.PageReply.the-variants as page
 use Rattle.page.specs.Pages.{answer}

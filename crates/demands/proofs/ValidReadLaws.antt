@@ -20,8 +20,7 @@ use Rattle.reader.proofs.ReadsLaws.{reads-finding}
 use Rattle.summary.specs.Fragments.{schemaOf, binoidOf, ReadUnder}
 use Rattle.summary.proofs.ShapeLaws.{lawsOf, sound-not-bad}
 use Rattle.words.proofs.MismatchLaws.{balanced-not-mismatched}
-use Rattle.page.specs.Pages.{PageSays}
-use Rattle.page.specs.Pages.{answer as pageAnswer}
+use Rattle.page.specs.Pages.{PageSays, answer as pageAnswer}
 use Rattle.page.specs.declared.PageReply.{PageReply}
 use Rattle.page.specs.declared.PageReply.the-variants as page
 use Rattle.demands.specs.Third.{NestsPast, ReadAsValid}

@@ -16,8 +16,7 @@ use Rattle.summary.specs.declared.Summary.{Summary}
 use Rattle.summary.specs.declared.FragmentReply.{FragmentReply}
 use Rattle.summary.specs.declared.JoinReply.{JoinReply}
 use Rattle.summary.specs.declared.DepthReply.{DepthReply}
-use Rattle.page.specs.Pages.{PageSays}
-use Rattle.page.specs.Pages.{answer as pageAnswer}
+use Rattle.page.specs.Pages.{PageSays, answer as pageAnswer}
 use Rattle.page.specs.declared.PageReply.{PageReply}
 use Rattle.rounds.specs.Checks.{HasPage, zeroed, CheckSays}
 use Rattle.rounds.specs.Answers.{answer}

@@ -12,8 +12,7 @@ use Rattle.reader.specs.Reads.{Spelled}
 use Rattle.summary.specs.Fragments.{schemaOf}
 use Rattle.trees.specs.Trees.{Tree}
 use Rattle.trees.specs.Verdict.{met, passed, used, Decides}
-use Rattle.page.specs.Pages.{PageSays}
-use Rattle.page.specs.Pages.{answer as pageAnswer}
+use Rattle.page.specs.Pages.{PageSays, answer as pageAnswer}
 use Rattle.page.specs.declared.PageReply.{PageReply}
 use Rattle.rounds.specs.Checks.{RuleOf, EventOf, NewOf, HasPage, Rows, CheckSays}
 use Rattle.rounds.specs.Answers.{answer, number, images}

@@ -15,8 +15,8 @@ use Rattle.words.specs.Balance.{Balanced}
 use Rattle.words.specs.Binoid.{Value}
 use Rattle.words.specs.Reduced.{tags, Reduced}
 use Rattle.words.proofs.ValueLaws.{value-balanced}
-use Rattle.words.proofs.ReducedLaws.{reduced-whole, balanced-iff}
-use Rattle.words.proofs.ReadLaws.{reduced-unique}
+use Rattle.words.proofs.ReducedLaws.{reduced-whole}
+use Rattle.words.proofs.ReadLaws.{balanced-bottom}
 use Rattle.hedge.specs.Schema.{Derives, Valid}
 use Rattle.hedge.specs.Operations.{accepts}
 use Rattle.hedge.proofs.NumberLaws.{derives-accepts}
@@ -62,9 +62,7 @@ module _ (f : List ℕ) where
     balanced-none : Balanced w → count s ≡ 0
     unfolding tags
     balanced-none b =
-        let (c, r) = balanced-iff (binoidOf f) .0 b in
-        sym (tags-held (s .ends) (count s) (s .names) (s .relations))
-        ∙ ap tags (reduced-unique (binoidOf f) (lawsOf f sound) reduces r .0)
+        sym (tags-held (s .ends) (count s) (s .names) (s .relations)) ∙ ap tags (balanced-bottom (binoidOf f) (lawsOf f sound) b reduces)
 
     none-value : count s ≡ 0 → Value (binoidOf f) w (getD (s .relations) 0 0)
     none-value e =

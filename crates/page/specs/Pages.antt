@@ -6,8 +6,7 @@ use mathlib.Core.List.{List}
 use Prim.Native.Nat.{ℕ}
 use Rattle.words.specs.Tags.{Tag}
 use Rattle.words.specs.Balance.{Balanced}
-use Rattle.hedge.specs.Schema.{Derives}
-use Rattle.hedge.specs.Schema.{Valid as IsValid}
+use Rattle.hedge.specs.Schema.{Derives, Valid as IsValid}
 use Rattle.template.specs.Layout.{names}
 use Rattle.template.specs.Order.{IsSound, reading}
 use Rattle.template.specs.declared.Reading.the-variants.{Bad}

@@ -9,8 +9,7 @@ use Rattle.words.specs.Reduced.{Stack}
 use Rattle.words.specs.Reader.{Outcome, reduced, Limited, fits, differs, too-deep, step, limit}
 use Rattle.words.proofs.ReadLaws.{Told, told-step}
 use Rattle.words.proofs.LimitLaws.{Answers, limit-iff}
-use Rattle.reader.specs.Reads.{Spelled, mismatch, too-many}
-use Rattle.reader.specs.Reads.{Form, Refused, by-mismatch, by-depth, AllReadable}
+use Rattle.reader.specs.Reads.{Spelled, mismatch, too-many, Form, Refused, by-mismatch, by-depth, AllReadable}
 use Rattle.reader.proofs.SpelledLaws.{spelled-next}
 use Rattle.reader.proofs.ReadsLaws.{all-readable-next}
 

@@ -8,8 +8,7 @@ use native.Mathlib.Omega.{arith}
 use lib.ListN.{length}
 use Rattle.words.specs.Binoid.{Binoid, Laws}
 use Rattle.words.specs.Reduced.{bottom, tags}
-use Rattle.reader.specs.Reads.{Reason, Found, whole, refused}
-use Rattle.reader.specs.Reads.{Form, Readable, Refused, AllReadable, Reads, reads-all, reads-to}
+use Rattle.reader.specs.Reads.{Reason, Found, whole, refused, Form, Readable, Refused, AllReadable, Reads, reads-all, reads-to}
 use Rattle.reader.proofs.SplitLaws.{append-empty, last-split, Places, two-splits}
 use Rattle.reader.proofs.FormLaws.{form-empty, form-unique, readable-unrefused, refused-unique}
 

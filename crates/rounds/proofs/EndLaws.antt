@@ -1,6 +1,6 @@
 -- How the rounds end, in the words of the code: the state at the loop's head, the walk's reply and table, the event of its notes, and the
 -- table sorted and cleared give the promise of the check; or the next state. By DecisionLaws and PassLaws. Assumes nothing.
-use mathlib.Core.Path.{_≡_, refl, _∙_, subst}
+use mathlib.Core.Path.{_≡_, refl, sym, _∙_, subst}
 use mathlib.Core.List.{List}
 use Prim.Native.Nat.{ℕ, suc, _+_, _*_, _≤_, _<_}
 use native.Mathlib.Numerals.{add-one}
@@ -9,6 +9,7 @@ use lib.ListN.{length, drop}
 use Rattle.template.specs.Order.{IsSound}
 use Rattle.trees.specs.Verdict.{met}
 use Rattle.rows.specs.Tables.{rowsOf, tableOf, sorted, cleared}
+use Rattle.rows.proofs.PutLaws.{sorted-rows-length}
 use Rattle.turns.specs.declared.Notes.{Notes}
 use Rattle.walk.specs.declared.Walk.{Walk}
 use Rattle.walk.specs.declared.Walk.the-variants.{Stopped, Went}
@@ -20,7 +21,7 @@ use Rattle.rounds.specs.Walking.{WalkedUnder, Tells}
 use Rattle.rounds.proofs.StateLaws.{AfterRound, state-used}
 use Rattle.rounds.proofs.DecisionLaws.{DecidesUnder, stopped-decides, invalid-decides, deep-decides, crowded-decides}
 use Rattle.rounds.proofs.DecisionLaws.{passed-decides, next-rows, next-state}
-use Rattle.rounds.proofs.PassLaws.{sorted-rows, sorted-count, cleared-zeroed, sorted-shown}
+use Rattle.rounds.proofs.PassLaws.{sorted-rows, cleared-zeroed, sorted-shown}
 
 -- the walk's table is as long as it was, and as it was past entry 5,120
 walked-length : (f t t′ : List ℕ) (n : ℕ) (w : Walk) → WalkedUnder f t n w t′ → length t′ ≡ length t
@@ -108,7 +109,7 @@ module _ {f t₀ t t′ : List ℕ} {budget r prev n : ℕ} {w : Walk} (turn : T
           (
             sorted (rowsOf n t′),
             rw add-one (sorted-rows f t′ n (suc r) tidy (rw same at rows)),
-            sorted-count n t′,
+            sym (sorted-rows-length t′ n),
             sorted-shown t₀ t′ turn-rest t₁ u n (tidy .few) turn-room e₁ e₂,
           ),
         )

@@ -9,8 +9,8 @@ use native.Mathlib.Omega.{arith}
 use Rattle.words.specs.Tags.{Tag}
 use Rattle.words.specs.Balance.{Balanced}
 use Rattle.words.specs.Reduced.{Stack, bottom, push, Reduced}
-use Rattle.words.proofs.ReducedLaws.{reduced-whole, balanced-iff}
-use Rattle.words.proofs.ReadLaws.{reduced-unique}
+use Rattle.words.proofs.ReducedLaws.{reduced-whole}
+use Rattle.words.proofs.ReadLaws.{balanced-bottom}
 use Rattle.hedge.specs.Schema.{Valid}
 use Rattle.hedge.specs.Operations.{accepts}
 use Rattle.hedge.proofs.NumberLaws.{valid-accepts}
@@ -46,8 +46,7 @@ module _ (f : List ℕ) (sound : IsSound f) where
       (back, there)
   valid-form w (push s h t) c d = (
     λ v.
-        let (b, r) = balanced-iff (binoidOf f) .0 (v .0) in
-        let e : bottom ≡ push s h t = reduced-unique (binoidOf f) (lawsOf f sound) r d .0 in
+        let e : push s h t ≡ bottom = balanced-bottom (binoidOf f) (lawsOf f sound) (v .0) d in
         let z : _≡_ {A = ℕ} 0 1 = cc e in
         omega (arith, z),
     λ e. absurd e,

@@ -3,7 +3,7 @@
 use mathlib.Core.Path.{_≡_, refl, ap}
 use mathlib.Core.List.{List, [], _∷_, List·Memᴰ, List·Memᴰ·head, List·Memᴰ·tail, List·Memᴰ·not-nil, List·Memᴰ·cases-cons}
 use mathlib.Core.Logic.{⊎-elim}
-use Prim.Native.Nat.{ℕ, zero, suc, _≤_, _<_}
+use Prim.Native.Nat.{ℕ, zero, suc, _<_}
 use native.Mathlib.Decide.{decLt}
 use native.Mathlib.Omega.{arith}
 use lib.ListN.{length}
@@ -12,6 +12,7 @@ use Rattle.rows.specs.Tables.{rowAt}
 use Rattle.rows.proofs.TableLaws.{Differing}
 use Rattle.rows.proofs.RowLaws.{row-pair, pair-row}
 use Rattle.turns.specs.Slots.{PairRow, Tabled}
+use Rattle.walk.proofs.ProgressLaws.{tabled-later}
 
 -- a row packs one pair, and a pair has one row
 pub row-one-pair : (row : List ℕ) (p q : Pair ℕ) → PairRow row p → PairRow row q → p ≡ q
@@ -26,14 +27,6 @@ pair-one-row row row′ p a b = pair-row row row′ (p .of) (p .form) (p .last) 
 
 abbrev pub PairRows : List ℕ → ℕ → Type 0
 PairRows t n = (k : ℕ) → k < n → (p : Pair ℕ) × PairRow (rowAt t k) p
-
--- more rows have the pairs of fewer
-pub tabled-more : (t : List ℕ) {m n : ℕ} → m ≤ n → (p : Pair ℕ) → Tabled t m p → Tabled t n p
-tabled-more t h p (k, l, a) = (k, omega (arith, h, l), a)
-
--- and tables whose n first rows are the same have the same pairs there
-pub tabled-same : (t u : List ℕ) (n : ℕ) → ((k : ℕ) → k < n → rowAt u k ≡ rowAt t k) → (p : Pair ℕ) → Tabled t n p → Tabled u n p
-tabled-same t u n same p (k, l, a) = (k, l, rw (same k l) a)
 
 -- the list
 pub record Listed (t : List ℕ) (n : ℕ) : Type 0 where
@@ -66,7 +59,7 @@ module _ (t : List ℕ) where
     count = ap suc (l .count);
     distinct = distinct-more (λ m. last-new n different q a (l .each q m)) (l .distinct);
     each = λ p m.
-        ⊎-elim (λ (e : p ≡ q). (n, omega arith, rw e a)) (λ k. tabled-more t (omega arith) p (l .each p k)) (List·Memᴰ·cases-cons m);
+        ⊎-elim (λ (e : p ≡ q). (n, omega arith, rw e a)) (λ k. tabled-later t t n (suc n) (omega arith) (λ j h. refl) p (l .each p k)) (List·Memᴰ·cases-cons m);
     every = λ p b. last-or-before n q p a (l .pairs) (l .every) b;
   }
 

@@ -1,12 +1,12 @@
 -- What the check leaves in the worktable. On a pass the rows are sorted and zeros follow them: as no row stands twice they ascend, each
 -- packs an image and each image has its row. On any other answer of the rounds there are zeros alone. Assumes nothing.
-use mathlib.Core.Path.{_≡_, sym, _∙_, subst}
+use mathlib.Core.Path.{_≡_, sym, subst}
 use mathlib.Core.List.{List}
 use Prim.Native.Nat.{ℕ, _*_, _≤_}
 use lib.ListN.{length, drop}
 use Rattle.rows.specs.Tables.{rowAt, rowsOf, tableOf, sorted, cleared}
-use Rattle.rows.proofs.TableLaws.{rows-length, row-member, member-row}
-use Rattle.rows.proofs.PutLaws.{sorted-length, sorted-keeps, sorted-only}
+use Rattle.rows.proofs.TableLaws.{row-member, member-row}
+use Rattle.rows.proofs.PutLaws.{sorted-rows-length, sorted-keeps, sorted-only}
 use Rattle.rows.proofs.SortLaws.{rows-no-repeats, sorted-ascends}
 use Rattle.rows.proofs.ClearLaws.{sorted-cleared, whole-cleared}
 use Rattle.rounds.specs.Checks.{PairRow, Rows, shown, zeroed}
@@ -28,9 +28,6 @@ module _ (f t : List ℕ) (n r : ℕ) (tidy : TidyUnder f t n) (rows : Holding f
         (rowAt t k, sorted-keeps (rowsOf n t) (rowAt t k) (row-member k n t h), b);
   }
 
-pub sorted-count : (n : ℕ) (t : List ℕ) → n ≡ length (sorted (rowsOf n t))
-sorted-count n t = sym (sorted-length (rowsOf n t) ∙ rows-length n t)
-
 -- ---- the table, which is as t₀ was past entry 5,120
 
 module _ (t₀ t : List ℕ) (rest : drop 5120 t ≡ drop 5120 t₀) where
@@ -40,4 +37,4 @@ module _ (t₀ t : List ℕ) (rest : drop 5120 t ≡ drop 5120 t₀) where
   pub sorted-shown : (t₁ t₂ : List ℕ) (n : ℕ) → n ≤ 256 → 5120 ≤ length t → t₁ ≡ tableOf (sorted (rowsOf n t)) t
       → t₂ ≡ cleared t₁ (n * 20) 5120 → t₂ ≡ shown (sorted (rowsOf n t)) t₀
   sorted-shown t₁ t₂ n few room e d =
-      rw (← rest, ← sorted-count n t) (sorted-cleared t t₁ t₂ n few room e d)
+      rw (← rest, sorted-rows-length t n) (sorted-cleared t t₁ t₂ n few room e d)

@@ -9,6 +9,7 @@ use Prim.Native.Nat.{ℕ, suc, _≤_, _<_}
 use native.Mathlib.Decide.{decLt}
 use native.Mathlib.Omega.{arith}
 use Rattle.words.specs.Reader.{Outcome, reduced, differ}
+use Rattle.words.proofs.MismatchLaws.{reduced-not-differ}
 use Rattle.template.specs.Layout.{states, templateRules, schemaRules, endingStates}
 use Rattle.template.specs.Order.{IsSound}
 use Rattle.trees.specs.Events.{Pair}
@@ -21,10 +22,11 @@ use Rattle.turns.specs.Slots.{PairRow, Tabled}
 use Rattle.walk.specs.Walks.{Grown, Happened, Noted}
 use Rattle.turns.specs.declared.Notes.{Notes}
 use Rattle.walk.specs.declared.Walk.the-variants.{Stopped, Went}
+use Rattle.walk.proofs.ProgressLaws.{tabled-later}
 use Rattle.rounds.specs.Checks.{ImageOf, EventOf, NewOf}
 use Rattle.rounds.specs.Walking.{WalkedUnder}
 use Rattle.rounds.proofs.FormLaws.{PageForm}
-use Rattle.rounds.proofs.ListedLaws.{row-one-pair, pair-one-row, tabled-same, Listed, listed}
+use Rattle.rounds.proofs.ListedLaws.{row-one-pair, pair-one-row, Listed, listed}
 use Rattle.rounds.proofs.ResultLaws.{MismatchOf, InvalidOf, DeepOf, CrowdedOf, Over, Holding}
 use Rattle.rounds.proofs.ResultLaws.{over-image, over-mismatch, over-deep, over-invalid}
 
@@ -50,9 +52,7 @@ module _ (f : List ℕ) (sound : IsSound f) (t t′ : List ℕ) (n r : ℕ) (row
     pub went-matched : MismatchOf f (suc r) → ⊥
     went-matched e =
         let (x, a, b, o) = over-mismatch f sound t n r rows quiet .0 e in
-        let d : differ a b ≡ reduced _ _ = noted x (differ a b) o .reduces in
-        let z : _≡_ {A = ℕ} 0 1 = cc d in
-        omega (arith, z)
+        reduced-not-differ (sym (noted x (differ a b) o .reduces))
 
     pub went-invalid : notes .invalid ≡ true → InvalidOf f (suc r)
     went-invalid e =
@@ -85,8 +85,8 @@ module _ (f : List ℕ) (sound : IsSound f) (t t′ : List ℕ) (n r : ℕ) (row
     -- the rows below n hold what they held
     pub older-tabled : Holding f t′ n r
     older-tabled p = (
-      λ a. rows p .0 (tabled-same t′ t n (λ k h. sym (grown .same-rows k h)) p a),
-      λ i. tabled-same t t′ n (grown .same-rows) p (rows p .1 i),
+      λ a. rows p .0 (tabled-later t′ t n n (omega arith) (λ k h. sym (grown .same-rows k h)) p a),
+      λ i. tabled-later t t′ n n (omega arith) (grown .same-rows) p (rows p .1 i),
     )
 
     pub tabled-image : (p : Pair ℕ) → Tabled t′ m p → ImageOf f (suc r) p

@@ -7,8 +7,7 @@ use native.Mathlib.Omega.{arith}
 use Rattle.words.specs.Tags.{Tag}
 use Rattle.template.specs.Grammar.{Symbol, nonterminal}
 use Rattle.trees.specs.Trees.{Productive, Reached, start-reached, rule-reached, Useful}
-use Rattle.trees.proofs.HeightLaws.{Generates, yields-within, within-split, within-generates}
-use Rattle.trees.proofs.HeightLaws.{generates-append, generates-node}
+use Rattle.trees.proofs.HeightLaws.{Generates, yields-within, within-split, within-generates, generates-append, generates-node}
 use Rattle.trees.proofs.MarkLaws.{AllNonterminals, all-both, HasTree, productive-each, rule-all-reached}
 
 module _ {Rule : ℕ → List Symbol → Type 0} where

@@ -15,8 +15,7 @@ use Rattle.hedge.specs.Relation.{bit}
 use Rattle.hedge.proofs.TestLaws.{and-out}
 use Rattle.template.specs.Grammar.{rightSide, Gives}
 use Rattle.trees.specs.Trees.{Productive, Reached}
-use Rattle.trees.proofs.MarkLaws.{AllNonterminals, all-map, all-both, HasTree, all-productive, rule-all-reached}
-use Rattle.trees.proofs.MarkLaws.{mark-productive}
+use Rattle.trees.proofs.MarkLaws.{AllNonterminals, all-map, all-both, HasTree, all-productive, rule-all-reached, mark-productive}
 use Rattle.useful.specs.Marks.{Ruled, AllMarked, MarksAll, Fruitful, Justified, Passed, KeptUp, KeptDown}
 use Rattle.useful.specs.Marks.{slotMarked, withMark, withSlot}
 use Rattle.useful.proofs.SlotLaws.{Marked, Slot, right-slots, marked-each, slot-test}

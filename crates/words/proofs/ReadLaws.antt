@@ -6,13 +6,13 @@ use mathlib.Core.List.{List, [], _∷_, _++_, append-assoc, append-nil}
 use Prim.Native.Nat.{ℕ}
 use native.Mathlib.Decide.{ℕ-discrete}
 use Rattle.words.specs.Tags.{Tag, start, end}
-use Rattle.words.specs.Balance.{Mismatched, clash}
+use Rattle.words.specs.Balance.{Balanced, Mismatched, clash}
 use Rattle.words.specs.Binoid.{Binoid, Laws, Value, value-empty, value-element}
 use Rattle.words.specs.Reduced.{Stack, bottom, push, Reduced, whole, after-end, after-start}
 use Rattle.words.specs.Reader.{Outcome, reduced, differ, nothing-read, meet, step, then-tag, run, read, then-value}
 use Rattle.words.proofs.BalanceLaws.{mismatched-append}
 use Rattle.words.proofs.ValueLaws.{value-balanced, value-good, value-single}
-use Rattle.words.proofs.ReducedLaws.{reduced-append}
+use Rattle.words.proofs.ReducedLaws.{balanced-iff, reduced-append}
 use Rattle.words.proofs.StepLaws.{GoodOutcome, step-start, step-end, step-same, tag-reduced, good-tag}
 
 module _ (B : Binoid) where
@@ -128,6 +128,10 @@ module _ (B : Binoid) where
     pub reduced-unique : {w : List Tag} {s r : Stack (B .H)} {c d : B .H} → Reduced B w s c → Reduced B w r d → (s ≡ r) × (c ≡ d)
     reduced-unique {s = s} {r = r} {c = c} {d = d} p q =
         let e : reduced s c ≡ reduced r d = sym (read-reduced p) ∙ read-reduced q in (cc e, cc e)
+
+    -- a balanced word's form has no tags
+    pub balanced-bottom : {w : List Tag} {s : Stack (B .H)} {c : B .H} → Balanced w → Reduced B w s c → s ≡ bottom
+    balanced-bottom b r = reduced-unique r (balanced-iff B .0 b .1) .0
 
     pub value-unique : {w : List Tag} {h k : B .H} → Value B w h → Value B w k → h ≡ k
     value-unique p q = reduced-unique (whole p) (whole q) .1
