@@ -1,0 +1,114 @@
+//! The template file: its order of reading, its first fault, its three lists.
+
+/// A sound file: its three numbers and its lists, which are parts of the lent file.
+#[derive(Clone, Copy, Debug)]
+pub struct File<'a> {
+    pub names: u8,
+    pub nonterminals: u8,
+    pub states: u8,
+    pub rules: &'a [[u8; 4]],
+    pub schema: &'a [[u8; 4]],
+    pub ending: &'a [u8],
+}
+
+/// A fault's place.
+pub type Place = u64;
+
+/// Reads a whole file, or gives the place of the first fault in the order of reading.
+pub fn read(file: &[u8]) -> Result<File<'_>, Place> {
+    if file.len() < 16 {
+        return Err(0);
+    }
+    let (names, nonterminals, states) = (file[0], file[1], file[2]);
+    hold((1..=32).contains(&names), 0)?;
+    hold((1..=64).contains(&nonterminals), 1)?;
+    hold((1..=8).contains(&states), 2)?;
+    hold(file[3] == 0, 3)?;
+    let (rules_end, rules) = body(file, 4, 16, 4, 256)?;
+    let (schema_end, schema) = body(file, 8, rules_end, 4, 128)?;
+    let (end, ending) = body(file, 12, schema_end, 1, states as usize)?;
+    hold(file.len() == end, 0)?;
+    let sound = File {
+        names,
+        nonterminals,
+        states,
+        rules: file[rules].as_chunks().0,
+        schema: file[schema].as_chunks().0,
+        ending: &file[ending],
+    };
+    sound.bodies()?;
+    Ok(sound)
+}
+
+fn hold(so: bool, place: usize) -> Result<(), Place> {
+    if so {
+        Ok(())
+    } else {
+        Err(place as Place)
+    }
+}
+
+/// One contents entry at `at`: its offset must be where the body before it ends. Gives the body's
+/// end and its range.
+fn body(
+    file: &[u8],
+    at: usize,
+    offset: usize,
+    width: usize,
+    most: usize,
+) -> Result<(usize, std::ops::Range<usize>), Place> {
+    let number = |p: usize| u16::from_le_bytes([file[p], file[p + 1]]) as usize;
+    hold(number(at) == offset, at)?;
+    let count = number(at + 2);
+    hold(count <= most, at + 2)?;
+    let end = offset + width * count;
+    Ok((end, offset..end))
+}
+
+impl File<'_> {
+    fn bodies(&self) -> Result<(), Place> {
+        let mut place = 16;
+        for (i, rule) in self.rules.iter().enumerate() {
+            self.rule(rule, place)?;
+            hold(i == 0 || self.rules[i - 1] < *rule, place)?;
+            place += 4;
+        }
+        for (i, rule) in self.schema.iter().enumerate() {
+            let below = [self.states, self.names, self.states, self.states];
+            for field in 0..4 {
+                hold(rule[field] < below[field], place + field)?;
+            }
+            hold(i == 0 || self.schema[i - 1] < *rule, place)?;
+            place += 4;
+        }
+        for (i, state) in self.ending.iter().enumerate() {
+            hold(*state < self.states, place)?;
+            hold(i == 0 || self.ending[i - 1] < *state, place)?;
+            place += 1;
+        }
+        Ok(())
+    }
+
+    fn rule(&self, rule: &[u8; 4], place: usize) -> Result<(), Place> {
+        hold(rule[0] < self.nonterminals, place)?;
+        hold(rule[1] <= 2, place + 1)?;
+        for i in 0..2 {
+            let symbol = rule[2 + i];
+            let used = i < rule[1] as usize;
+            let fits = if used {
+                self.symbol(symbol)
+            } else {
+                symbol == 255
+            };
+            hold(fits, place + 2 + i)?;
+        }
+        Ok(())
+    }
+
+    fn symbol(&self, symbol: u8) -> bool {
+        match symbol {
+            0..=63 => symbol % 32 < self.names,
+            _ => symbol - 64 < self.nonterminals,
+        }
+    }
+}

@@ -1,0 +1,73 @@
+//! Words of tags: balanced, mismatched, reduced, nested.
+
+/// Whether a byte is a start tag.
+pub fn is_start(tag: u8) -> bool {
+    tag < 32
+}
+
+/// The balanced parts of a word: `holds(i, j)` for the part from i up to j.
+pub struct Balanced {
+    size: usize,
+    table: Vec<bool>,
+}
+
+impl Balanced {
+    /// A balanced string is empty, or start a, a balanced string, end a, a balanced string.
+    pub fn of(word: &[u8]) -> Self {
+        let size = word.len() + 1;
+        let mut all = Balanced {
+            size,
+            table: vec![false; size * size],
+        };
+        for length in 0..size {
+            for i in 0..size - length {
+                let j = i + length;
+                let so = i == j || (i + 1..j).any(|k| all.split(word, i, k, j));
+                all.table[i * size + j] = so;
+            }
+        }
+        all
+    }
+
+    fn split(&self, word: &[u8], i: usize, k: usize, j: usize) -> bool {
+        is_start(word[i]) && word[k] == word[i] + 32 && self.holds(i + 1, k) && self.holds(k + 1, j)
+    }
+
+    pub fn holds(&self, i: usize, j: usize) -> bool {
+        self.table[i * self.size + j]
+    }
+}
+
+/// Whether the word holds start a, a balanced string, end b with a and b different.
+pub fn mismatched(word: &[u8]) -> bool {
+    let balanced = Balanced::of(word);
+    (0..word.len()).any(|i| {
+        (i + 1..word.len()).any(|j| {
+            is_start(word[i])
+                && !is_start(word[j])
+                && word[j] != word[i] + 32
+                && balanced.holds(i + 1, j)
+        })
+    })
+}
+
+/// The places of the tags that stay when neighbours start a, end a are struck out until none is
+/// left.
+pub fn reduced(word: &[u8]) -> Vec<usize> {
+    let mut kept: Vec<usize> = (0..word.len()).collect();
+    let meets = |pair: &[usize]| is_start(word[pair[0]]) && word[pair[1]] == word[pair[0]] + 32;
+    while let Some(at) = kept.windows(2).position(meets) {
+        kept.drain(at..at + 2);
+    }
+    kept
+}
+
+/// The place of the tag with which a page's beginning first nests past 16. Every beginning of a
+/// balanced page has starts unmatched and nothing else: its starts minus its ends.
+pub fn nests_past_16(page: &[u8]) -> Option<usize> {
+    let mut depth = 0;
+    page.iter().position(|&tag| {
+        depth += if is_start(tag) { 1 } else { -1 };
+        depth > 16
+    })
+}
