@@ -31,7 +31,7 @@ use Rattle.summary.specs.declared.FragmentReply.{FragmentReply}
 use Rattle.page.specs.Pages.{answer, number}
 use Rattle.page.proofs.UniqueLaws.{page-unique}
 use Rattle.page.specs.Endings.{balanceOf, endOf}
-use Rattle.demands.specs.Cases.{K, Case, page, fragment, depth, joined, refused, Holds, cases, AllHold}
+use Rattle.demands.specs.Cases.{K, Case, page, fragment, depth, joined, refused, CaseHolds, cases, AllHold}
 use Rattle.demands.proofs.SecondLaws.{answer-summarised}
 use Rattle.demands.proofs.Findings.{classBy, classOf, findOn, findBy, findFrom, find}
 use Rattle.demands.proofs.Packings.{put, packOf}
@@ -104,7 +104,7 @@ join-is u v e d r s j p q says =
     join-unique K l m j (joinOf K l m) (rw (fragment-is u r p, fragment-is v s q) at says)
     (join-says K sound l m (summary-under u e) (summary-under v d))
 
-run-holds : (c : Case) → run c ≡ stated c → Holds c
+run-holds : (c : Case) → run c ≡ stated c → CaseHolds c
 unfolding answerOf
 run-holds (page bytes _ _) e = λ r says. rw (page-unique K bytes r (pageOf K bytes) says (page-says K sound bytes)) (cc e, cc e)
 run-holds (fragment bytes _ _ _ _) e = λ r says. rw (fragment-is bytes r says) (cc e, (cc e, cc e, cc e, cc e))

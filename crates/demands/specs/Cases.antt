@@ -37,17 +37,17 @@ Shows s ends starts names relations =
     (s .ends ≡ ends) × (s .starts ≡ starts) × (take (count s) (s .names) ≡ names) × (take (suc (count s)) (s .relations) ≡ relations)
 
 -- what a case says of every reply that the promises allow under K
-abbrev pub Holds : Case → Type 0
-Holds (page bytes a n) = (r : PageReply) → PageSays K bytes r → (answer r ≡ a) × (number r ≡ n)
-Holds (fragment bytes ends starts names relations) =
+abbrev pub CaseHolds : Case → Type 0
+CaseHolds (page bytes a n) = (r : PageReply) → PageSays K bytes r → (answer r ≡ a) × (number r ≡ n)
+CaseHolds (fragment bytes ends starts names relations) =
     (r : FragmentReply) → FragmentSays K bytes r → (fragmentAnswer (r .answer) ≡ 0) × Shows (r .summary) ends starts names relations
-Holds (depth bytes z) =
+CaseHolds (depth bytes z) =
     (r : FragmentReply) (d : DepthReply) → FragmentSays K bytes r → DepthSays K (r .summary) d
     → (fragmentAnswer (r .answer) ≡ 0) × (depthAnswer d ≡ 0) × (netDepth d ≡ z)
-Holds (joined u v ends starts names relations) =
+CaseHolds (joined u v ends starts names relations) =
     (r s : FragmentReply) (j : JoinReply) → FragmentSays K u r → FragmentSays K v s → JoinSays K (r .summary) (s .summary) j
     → (joinAnswer (j .answer) ≡ 0) × Shows (j .summary) ends starts names relations
-Holds (refused u v a n) =
+CaseHolds (refused u v a n) =
     (r s : FragmentReply) (j : JoinReply) → FragmentSays K u r → FragmentSays K v s → JoinSays K (r .summary) (s .summary) j
     → (joinAnswer (j .answer) ≡ a) × (joinNumber (j .answer) ≡ n)
 
@@ -72,4 +72,4 @@ cases =
 
 -- the one statement
 abbrev pub AllHold : Type 0
-AllHold = (c : Case) → List·Memᴰ c cases → Holds c
+AllHold = (c : Case) → List·Memᴰ c cases → CaseHolds c

@@ -69,11 +69,11 @@ pub fn compose(states: usize, left: u64, right: u64) -> u64
     r
 }
 
-// Field j of rule i: X, a, Y, Z.
-fn field(rules: &[u8], i: usize, j: usize) -> usize
+// Field j of rule i, of four bytes; of a schema rule X, a, Y, Z.
+pub fn field(rules: &[u8], i: usize, j: usize) -> usize
     requires { ⌜ i < length (now rules) / 4 ⌝ }
     requires { ⌜ j < 4 ⌝ }
-    ensures { λ v. ⌜ v ≡ field (now (rules .entry)) i j ⌝ }
+    ensures { λ v. ⌜ (v ≡ field (now (rules .entry)) i j) × (v < 256) ⌝ }
 {
     words::wide(rules[i * 4 + j])
 }

@@ -1,5 +1,5 @@
 -- The two tests at a page's end, as they are carried out on its summary: that no tag is left, and that state 0 accepts the relation.
-use mathlib.Core.Bool.{Bool, true, false}
+use mathlib.Core.Bool.{Bool, true, false, cond}
 use mathlib.Core.List.{List}
 use Prim.Native.Nat.{ℕ}
 use lib.Dec.{ltb}
@@ -11,15 +11,11 @@ use Rattle.page.specs.declared.Balance.the-variants as balance
 use Rattle.page.specs.declared.PageReply.{PageReply}
 use Rattle.page.specs.declared.PageReply.the-variants as page
 
-abbrev pub pickBalance : Bool → Balance → Balance → Balance
-pickBalance true b c = b
-pickBalance false b c = c
-
 -- the relation of what is balanced, or tags left unmatched
 unfoldable pub balanceOf : Summary → Balance
 balanceOf s =
-    pickBalance (ltb 0 (s .ends)) balance.Unmatched
-    (pickBalance (ltb 0 (s .starts)) balance.Unmatched (balance.Whole (getD (s .relations) 0 0)))
+    cond (ltb 0 (s .ends)) balance.Unmatched
+    (cond (ltb 0 (s .starts)) balance.Unmatched (balance.Whole (getD (s .relations) 0 0)))
 
 abbrev pub pickReply : Bool → PageReply
 pickReply true = page.Valid

@@ -6,8 +6,8 @@ use Prim.Native.Nat.{ℕ, _+_}
 use lib.ListN.{getD}
 use Rattle.words.specs.Tags.{Tag, Spells}
 use Rattle.words.specs.Reader.{Limited, differs, too-deep}
-use Rattle.stack.specs.Held.{stackOf}
-use Rattle.stack.specs.Steps.{Holds, held}
+use Rattle.stack.specs.Held.{stackOf, Holds}
+use Rattle.stack.specs.Steps.{held}
 use Rattle.stack.specs.declared.Step.{Step}
 use Rattle.stack.specs.declared.Step.the-variants as step
 use Rattle.reader.specs.Reads.{Found, whole, refused, no-tag, mismatch, too-many}

@@ -4,7 +4,8 @@ ghost use mathlib.Core.Path.{_≡_};
 ghost use lib.ListN.{getD};
 ghost use Rattle.hedge.specs.Schema.{RulesBelow, EndsBelow};
 ghost use Rattle.hedge.specs.Operations.{relations};
-ghost use Rattle.stack.specs.Steps.{Schooled, Holds, after-tag};
+ghost use Rattle.stack.specs.Held.{Holds};
+ghost use Rattle.stack.specs.Steps.{Schooled, after-tag};
 ghost use Rattle.reader.specs.Reads.{Reads};
 ghost use Rattle.reader.specs.Feeds.{feedOf, Fed, Progressed};
 

@@ -9,8 +9,7 @@ use native.Mathlib.Omega.{arith}
 use lib.ListN.{length, getD, drop, take}
 use lib.Pow.{pow-add}
 use lib.Seq.{ext-getD}
-use Rattle.stack.specs.Held.{stackOf}
-use Rattle.stack.specs.Steps.{Holds}
+use Rattle.stack.specs.Held.{stackOf, Holds}
 use Rattle.rows.specs.Packed.{bytesIn, packed, nonterminalIn, endsIn, startsIn, nameIn, namesIn, RowOf}
 use Rattle.rows.proofs.ByteLaws.{bytes-cons, names-length}
 

@@ -6,8 +6,7 @@ use Prim.Native.Nat.{ℕ, _+_}
 use native.Mathlib.Omega.{arith}
 use lib.ListN.{length, getD, drop}
 use Rattle.words.specs.Reduced.{Stack}
-use Rattle.stack.specs.Held.{stackOf}
-use Rattle.stack.specs.Steps.{Holds}
+use Rattle.stack.specs.Held.{stackOf, Holds}
 use Rattle.stack.proofs.PackLaws.{pack-unique}
 use Rattle.rows.specs.Packed.{nonterminalIn, endsIn, startsIn, namesIn, RowOf}
 use Rattle.rows.proofs.PackedLaws.{packed-values, packed-length, packed-nonterminal, packed-ends, packed-starts, packed-names}

@@ -5,8 +5,7 @@ use mathlib.Core.List.{List, [], _∷_}
 use Prim.Native.Nat.{ℕ, zero, suc, _+_, _*_, _/_, _%_, _^_, _<_}
 use lib.ListN.{length, getD, take, drop}
 use Rattle.words.specs.Reduced.{Stack}
-use Rattle.stack.specs.Held.{stackOf}
-use Rattle.stack.specs.Steps.{Holds}
+use Rattle.stack.specs.Held.{stackOf, Holds}
 
 -- bytes in one entry, first lowest
 unfoldable pub bytesIn : List ℕ → ℕ

@@ -14,8 +14,8 @@ use borrow.Author.Needs.{needs}
 use Rattle.words.specs.Reader.{reduced, Limited, limit, join, then-tag-within, then-value-within, join-within}
 use Rattle.words.proofs.LimitLaws.{join-within-limit}
 use Rattle.hedge.specs.Operations.{relations, compose}
-use Rattle.stack.specs.Held.{tagOf, tagAt, stackOf}
-use Rattle.stack.specs.Steps.{Holds, held, outcome, Stepped, after-tag, after-turn, after-form}
+use Rattle.stack.specs.Held.{tagOf, tagAt, stackOf, Holds}
+use Rattle.stack.specs.Steps.{held, outcome, Stepped, after-tag, after-turn, after-form}
 use Rattle.stack.specs.declared.Step.{Step}
 use Rattle.stack.specs.declared.Step.the-variants.{Kept}
 use Rattle.stack.proofs.HeldLaws.{tags-held, ends-first-held}

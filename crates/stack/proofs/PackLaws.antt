@@ -11,8 +11,8 @@ use lib.ListN.{getD, length}
 use lib.Seq.{ext-getD}
 use Rattle.words.specs.Tags.{Tag, start, end}
 use Rattle.words.specs.Reduced.{starts, ends}
-use Rattle.stack.specs.Held.{tagOf, tagAt, stackOf, Unused}
-use Rattle.stack.specs.Steps.{Holds, held}
+use Rattle.stack.specs.Held.{tagOf, tagAt, stackOf, Unused, Holds}
+use Rattle.stack.specs.Steps.{held}
 use Rattle.stack.proofs.HeldLaws.{starts-held, ends-held}
 
 -- a place that is in use

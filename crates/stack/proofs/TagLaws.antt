@@ -15,8 +15,8 @@ use Rattle.words.specs.Reader.{Limited, fits, differs, too-deep}
 use Rattle.words.proofs.StepLaws.{step-push, step-same, step-other}
 use Rattle.words.proofs.LimitLaws.{limit-in, limit-out, limit-differ}
 use Rattle.hedge.specs.Operations.{relations, unit, compose, wrap}
-use Rattle.stack.specs.Held.{tagOf, stackOf}
-use Rattle.stack.specs.Steps.{Schooled, Holds, held, outcome, Stepped, after-tag}
+use Rattle.stack.specs.Held.{tagOf, stackOf, Holds}
+use Rattle.stack.specs.Steps.{Schooled, held, outcome, Stepped, after-tag}
 use Rattle.stack.specs.declared.Step.{Step}
 use Rattle.stack.specs.declared.Step.the-variants.{Kept, Mismatch, TooDeep}
 use Rattle.stack.proofs.HeldLaws.{tag-start, stack-last, stack-put-start, stack-put-end, stack-take}

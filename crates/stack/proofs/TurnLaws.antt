@@ -13,7 +13,8 @@ use borrow.Author.Needs.{needs}
 use Rattle.words.specs.Tags.{Tag}
 use Rattle.words.specs.Reader.{Limited, fits, then-tag-within, then-value-within}
 use Rattle.hedge.specs.Operations.{relations, compose}
-use Rattle.stack.specs.Steps.{Holds, held, outcome, Stepped, after-tag, after-turn}
+use Rattle.stack.specs.Held.{Holds}
+use Rattle.stack.specs.Steps.{held, outcome, Stepped, after-tag, after-turn}
 use Rattle.stack.specs.declared.Step.{Step}
 use Rattle.stack.specs.declared.Step.the-variants.{Kept, Mismatch, TooDeep}
 use Rattle.stack.proofs.HeldLaws.{stack-value, unused-value}

@@ -3,9 +3,9 @@
 use mathlib.Core.Path.{_≡_}
 use mathlib.Core.Bool.{Bool, true, false}
 use mathlib.Core.List.{List}
-use Prim.Native.Nat.{ℕ, zero, suc, _≤_, _<_}
+use Prim.Native.Nat.{ℕ, zero, suc, _+_, _≤_, _<_}
 use lib.Dec.{ltb}
-use lib.ListN.{getD}
+use lib.ListN.{length, getD}
 use Rattle.words.specs.Tags.{Tag, start, end}
 use Rattle.words.specs.Reduced.{Stack, bottom, push}
 
@@ -27,3 +27,11 @@ stackOf e names relations (suc k) = push (stackOf e names relations k) (getD rel
 pub record Unused (n : ℕ) (names relations : List ℕ) : Type 0 where
   pub names-zero : (k : ℕ) → n ≤ k → getD names k 0 ≡ 0
   pub relations-zero : (k : ℕ) → n < k → getD relations k 0 ≡ 0
+
+-- e ends and s starts stand in the arrays, and nothing behind them. That the arrays are of 16 and 17 is said too: a function does not
+-- know it of an array that it was lent
+pub record Holds (e s : ℕ) (names values : List ℕ) : Type 0 where
+  pub names-long : length names ≡ 16
+  pub values-long : length values ≡ 17
+  pub room : e + s ≤ 16
+  pub unused : Unused (e + s) names values

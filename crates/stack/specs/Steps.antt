@@ -2,12 +2,12 @@
 use mathlib.Core.Path.{_≡_}
 use mathlib.Core.List.{List}
 use Prim.Native.Nat.{ℕ, _+_, _≤_}
-use lib.ListN.{getD, length}
+use lib.ListN.{getD}
 use Rattle.words.specs.Tags.{Tag}
 use Rattle.words.specs.Reader.{Limited, fits, differs, too-deep, step, limit, then-value-within, join-within}
 use Rattle.hedge.specs.Schema.{RulesBelow, EndsBelow}
 use Rattle.hedge.specs.Operations.{relations, unit}
-use Rattle.stack.specs.Held.{stackOf, Unused}
+use Rattle.stack.specs.Held.{stackOf, Holds}
 use Rattle.stack.specs.declared.Step.{Step}
 use Rattle.stack.specs.declared.Step.the-variants.{Kept, Mismatch, TooDeep}
 
@@ -17,14 +17,6 @@ pub record Schooled (states : ℕ) (schema endings : List ℕ) (empty : ℕ) : T
   pub rules-below : RulesBelow 8 schema
   pub ends-below : EndsBelow 8 endings
   pub empty-word : empty ≡ unit 8 states
-
--- e ends and s starts stand in the arrays, and nothing behind them. That the arrays are of 16 and 17 is said too: a function does not
--- know it of an array that it was lent
-pub record Holds (e s : ℕ) (names values : List ℕ) : Type 0 where
-  pub names-long : length names ≡ 16
-  pub values-long : length values ≡ 17
-  pub room : e + s ≤ 16
-  pub unused : Unused (e + s) names values
 
 -- the form that the arrays hold: the tags, and the relation after them
 abbrev pub held : ℕ → ℕ → List ℕ → List ℕ → Limited ℕ
@@ -36,15 +28,15 @@ outcome (Kept e s) names values = held e s names values
 outcome (Mismatch a b) names values = differs a b
 outcome TooDeep names values = too-deep
 
-abbrev pub Tidy : Step → List ℕ → List ℕ → Type 0
-Tidy (Kept e s) names values = Holds e s names values
-Tidy (Mismatch a b) names values = Unit {0}
-Tidy TooDeep names values = Unit {0}
+abbrev pub HoldsAfter : Step → List ℕ → List ℕ → Type 0
+HoldsAfter (Kept e s) names values = Holds e s names values
+HoldsAfter (Mismatch a b) names values = Unit {0}
+HoldsAfter TooDeep names values = Unit {0}
 
 -- the step and the arrays after it say o
 pub record Stepped (r : Step) (names values : List ℕ) (o : Limited ℕ) : Type 0 where
   pub says : outcome r names values ≡ o
-  pub tidy : Tidy r names values
+  pub tidy : HoldsAfter r names values
 
 module _ (states : ℕ) (schema endings : List ℕ) where
   -- one tag more

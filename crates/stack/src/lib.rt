@@ -6,8 +6,8 @@ ghost use mathlib.Core.Bool.{true};
 ghost use lib.ListN.{getD, set};
 ghost use Rattle.hedge.specs.Schema.{RulesBelow, EndsBelow};
 ghost use Rattle.hedge.specs.Operations.{compose, wrap};
-ghost use Rattle.stack.specs.Held.{tagOf};
-ghost use Rattle.stack.specs.Steps.{Schooled, Holds, Stepped, after-tag, after-turn, after-form};
+ghost use Rattle.stack.specs.Held.{tagOf, Holds};
+ghost use Rattle.stack.specs.Steps.{Schooled, Stepped, after-tag, after-turn, after-form};
 
 // After a tag: kept, with so many ends and starts; a start and an end of different names met; more than 16 tags.
 pub enum Step {

@@ -1,7 +1,7 @@
 -- The test of every place, as a loop carries it out: none, next and end, in the words in which the code has its facts; and the two arms
 -- of a choice. Then what the whole test says, by induction on the bound. Assumes nothing.
 use mathlib.Core.Path.{_≡_, refl}
-use mathlib.Core.Bool.{Bool, true, false, _&&_}
+use mathlib.Core.Bool.{Bool, true, false, _&&_, cond}
 use mathlib.Core.List.{List}
 use Prim.Native.Nat.{ℕ, zero, suc, _+_, _≤_, _<_}
 use native.Mathlib.Decide.{decLt}
@@ -13,7 +13,7 @@ use lib.ListN.{getD}
 use borrow.Author.Needs.{needs}
 use Rattle.hedge.specs.Operations.{covers}
 use Rattle.hedge.proofs.TestLaws.{and-out}
-use Rattle.summary.specs.Packing.{every, pick, nameFits, valueFits}
+use Rattle.summary.specs.Packing.{every, nameFits, valueFits}
 
 -- ---- the loop
 
@@ -31,26 +31,26 @@ module _ (n : ℕ) (f : ℕ → Bool) where
 
 -- one name more, one relation more
 pub names-next : (A n k : ℕ) (names : List ℕ) (t u : Bool) → t ≡ every k (nameFits A n names)
-    → u ≡ pick (ltb k n) (ltb (getD names k 0) A) (eqb (getD names k 0) 0)
+    → u ≡ cond (ltb k n) (ltb (getD names k 0) A) (eqb (getD names k 0) 0)
     → (t && u) ≡ every (k + 1) (nameFits A n names)
 unfolding nameFits
 names-next A n k names t u et eu = every-next k (nameFits A n names) t u et eu
 
 pub values-next : (all n k : ℕ) (values : List ℕ) (t u : Bool) → t ≡ every k (valueFits all n values)
-    → u ≡ pick (leb k n) (covers all (getD values k 0)) (eqb (getD values k 0) 0)
+    → u ≡ cond (leb k n) (covers all (getD values k 0)) (eqb (getD values k 0) 0)
     → (t && u) ≡ every (k + 1) (valueFits all n values)
 unfolding valueFits
 values-next all n k values t u et eu = every-next k (valueFits all n values) t u et eu
 
 -- ---- a choice
 
-pub pick-first : (t a b c : Bool) → t ≡ true → c ≡ a → c ≡ pick t a b
-pick-first t a b c e h = rw e h
+pub cond-first : (t a b c : Bool) → t ≡ true → c ≡ a → c ≡ cond t a b
+cond-first t a b c e h = rw e h
 
-pub pick-second : (t a b c : Bool) → t ≡ false → c ≡ b → c ≡ pick t a b
-pick-second t a b c e h = rw e h
+pub cond-second : (t a b c : Bool) → t ≡ false → c ≡ b → c ≡ cond t a b
+cond-second t a b c e h = rw e h
 
-pub ruleset fits-turns = (every-none, every-end, names-next, values-next, pick-first, pick-second, needs)
+pub ruleset fits-turns = (every-none, every-end, names-next, values-next, cond-first, cond-second, needs)
 
 -- ---- what passes
 

@@ -11,7 +11,8 @@ use Rattle.template.specs.Layout.{states, partOf, schemaRules, endingStates}
 use Rattle.template.specs.Order.{IsSound, reading}
 use Rattle.template.specs.declared.Reading.the-variants.{Sound, Bad}
 use Rattle.template.specs.declared.Shape.{Shape}
-use Rattle.stack.specs.Steps.{Holds, Stepped, outcome, after-form}
+use Rattle.stack.specs.Held.{Holds}
+use Rattle.stack.specs.Steps.{Stepped, outcome, after-form}
 use Rattle.stack.specs.declared.Step.{Step}
 use Rattle.stack.specs.declared.Step.the-variants as step
 use Rattle.stack.proofs.FormLaws.{form-limit}

@@ -2,7 +2,7 @@
 -- summary: at most 16 tags and one relation more than tags. A summary with a tag name of A or more, more than 16 tags, a relation bit
 -- outside Q, or an unused place that isn't 0 is no summary." "Any refusal's summary is all zeros."
 use mathlib.Core.Path.{_≡_}
-use mathlib.Core.Bool.{Bool, true, false, _&&_}
+use mathlib.Core.Bool.{Bool, true, _&&_, cond}
 use mathlib.Core.List.{List}
 use Prim.Native.Nat.{ℕ, zero, suc, _+_, _^_, _≤_, _<_}
 use lib.Dec.{eqb, ltb, leb}
@@ -46,17 +46,13 @@ unfoldable pub every : ℕ → (ℕ → Bool) → Bool
 every zero f = true
 every (suc n) f = every n f && f n
 
-abbrev pub pick : Bool → Bool → Bool → Bool
-pick true a b = a
-pick false a b = b
-
 -- a place in use holds a name below A, another 0
 unfoldable pub nameFits : ℕ → ℕ → List ℕ → ℕ → Bool
-nameFits A n names k = pick (ltb k n) (ltb (getD names k 0) A) (eqb (getD names k 0) 0)
+nameFits A n names k = cond (ltb k n) (ltb (getD names k 0) A) (eqb (getD names k 0) 0)
 
 -- a place in use holds a relation that the relation of all pairs covers, another 0
 unfoldable pub valueFits : ℕ → ℕ → List ℕ → ℕ → Bool
-valueFits all n values k = pick (leb k n) (covers all (getD values k 0)) (eqb (getD values k 0) 0)
+valueFits all n values k = cond (leb k n) (covers all (getD values k 0)) (eqb (getD values k 0) 0)
 
 -- each is a number of 64 bits
 abbrev pub Small : List ℕ → Type 0

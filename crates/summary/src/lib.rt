@@ -1,7 +1,7 @@
 // Fragment summaries: read from a run of bytes, joined, and their net depth. Any file, any bytes and any struct may be lent: each call
 // looks at them first, in document 01's order.
 ghost use mathlib.Core.Path.{_≡_};
-ghost use mathlib.Core.Bool.{true};
+ghost use mathlib.Core.Bool.{true, cond};
 ghost use mathlib.Core.Logic.{_↔_};
 ghost use Prim.Native.Nat.{_+_, _≤_, _<_};
 ghost use lib.Dec.{eqb, ltb};
@@ -10,7 +10,7 @@ ghost use lib.ListN.{length};
 ghost use Rattle.hedge.specs.Operations.{full, covers};
 ghost use Rattle.template.specs.Order.{reading};
 ghost use Rattle.template.specs.declared.Reading.the-variants.{Sound};
-ghost use Rattle.summary.specs.Packing.{zeros, IsSummary, every, pick, nameFits, valueFits, Small};
+ghost use Rattle.summary.specs.Packing.{zeros, IsSummary, every, nameFits, valueFits, Small};
 ghost use Rattle.summary.specs.Fragments.{FragmentSays};
 ghost use Rattle.summary.specs.Joins.{SummaryUnder, JoinSays, DepthSays};
 ghost use Rattle.summary.specs.Answers.{fragmentAnswer, fragmentNumber, joinAnswer, joinNumber, depthAnswer, depthNumber, netDepth};
@@ -134,7 +134,7 @@ pub fn fragment(file: &[u8], bytes: &[u8]) -> FragmentReply
 
 // A name in use is below the number of names, another is 0.
 fn name_fits(used: bool, name: u8, known: u8) -> bool
-    ensures { λ r. ⌜ r ≡ pick used (ltb name known) (eqb name 0) ⌝ }
+    ensures { λ r. ⌜ r ≡ cond used (ltb name known) (eqb name 0) ⌝ }
 {
     if used { name < known } else { name == 0 }
 }
@@ -155,7 +155,7 @@ fn names_fit(names: &[u8], n: usize, known: u8) -> bool
 
 // A relation in use is covered by the relation of all pairs, another is 0.
 fn value_fits(used: bool, value: u64, full: u64) -> bool
-    ensures { λ r. ⌜ r ≡ pick used (covers full value) (eqb value 0) ⌝ }
+    ensures { λ r. ⌜ r ≡ cond used (covers full value) (eqb value 0) ⌝ }
 {
     if used {
         hedge::covers(full, value)

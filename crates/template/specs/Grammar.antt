@@ -2,7 +2,7 @@
 -- nonterminals; byte 64+n stands for nonterminal n; 0 is the start. A rule has 0, 1 or 2 symbols on its right." "A template rule is 4
 -- bytes: left side, length, two symbols." Right sides are lists of symbols of any length.
 use mathlib.Core.Path.{_≡_}
-use mathlib.Core.Bool.{Bool, true, false}
+use mathlib.Core.Bool.{cond}
 use mathlib.Core.List.{List, [], _∷_, map}
 use Prim.Native.Nat.{ℕ, _/_, _-_, _<_}
 use lib.Dec.{ltb}
@@ -15,13 +15,9 @@ pub data Symbol : Type 0 where
   tag : Tag → Symbol
   nonterminal : ℕ → Symbol
 
-abbrev pub pickSymbol : Bool → Symbol → Symbol → Symbol
-pickSymbol true s t = s
-pickSymbol false s t = t
-
 -- the symbol that a byte stands for
 unfoldable pub symbolOf : ℕ → Symbol
-symbolOf b = pickSymbol (ltb b 32) (tag (start b)) (pickSymbol (ltb b 64) (tag (end (b - 32))) (nonterminal (b - 64)))
+symbolOf b = cond (ltb b 32) (tag (start b)) (cond (ltb b 64) (tag (end (b - 32))) (nonterminal (b - 64)))
 
 -- the right side of rule i in a list of bytes, four to a rule
 unfoldable pub rightSide : List ℕ → ℕ → List Symbol

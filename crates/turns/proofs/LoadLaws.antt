@@ -13,7 +13,7 @@ use lib.Seq.{getD-set-same}
 use borrow.Author.Needs.{needs}
 use borrow.Author.Tests.{lt-ltb, le-ltb, eqb-true, eq-eqb}
 use Rattle.hedge.specs.Schema.{field}
-use Rattle.stack.specs.Steps.{Holds}
+use Rattle.stack.specs.Held.{Holds}
 use Rattle.stack.proofs.HeldLaws.{stack-none, stack-put-start, stack-put-end, unused-put, unused-value}
 use Rattle.stack.proofs.TurnLaws.{holds-value}
 use Rattle.rows.specs.Packed.{nonterminalIn, endsIn, startsIn, namesIn, RowOf}

@@ -13,8 +13,7 @@ use borrow.Author.Needs.{needs}
 use borrow.Author.Tests.{eq-eqb, ne-eqb}
 use Rattle.words.specs.Reduced.{Stack, bottom, push, tags}
 use Rattle.hedge.specs.Operations.{accepts}
-use Rattle.stack.specs.Held.{stackOf}
-use Rattle.stack.specs.Steps.{Holds}
+use Rattle.stack.specs.Held.{stackOf, Holds}
 use Rattle.stack.proofs.HeldLaws.{tags-held}
 use Rattle.rows.specs.Tables.{rowsOf, tableOf, among}
 use Rattle.rows.specs.Packed.{packed, RowOf}

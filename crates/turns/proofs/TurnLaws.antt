@@ -14,8 +14,8 @@ use borrow.Author.Needs.{needs}
 use Rattle.words.specs.Reader.{Outcome, reduced, join}
 use Rattle.words.proofs.LimitLaws.{Answers, limit-iff}
 use Rattle.hedge.specs.Operations.{relations}
-use Rattle.stack.specs.Held.{stackOf}
-use Rattle.stack.specs.Steps.{Holds, outcome, Stepped, after-form}
+use Rattle.stack.specs.Held.{stackOf, Holds}
+use Rattle.stack.specs.Steps.{outcome, Stepped, after-form}
 use Rattle.stack.specs.declared.Step.{Step}
 use Rattle.stack.specs.declared.Step.the-variants as steps
 use Rattle.stack.proofs.TagLaws.{holds-none}

@@ -1,7 +1,7 @@
 -- The two places of a rule's right side, and the forms that each can take from the rows of a table. Document 01: "A template rule is 4
 -- bytes: left side, length, two symbols"; an image of a nonterminal is a row of it.
 use mathlib.Core.Path.{_≡_}
-use mathlib.Core.Bool.{Bool, true, false}
+use mathlib.Core.Bool.{Bool, true, false, cond}
 use mathlib.Core.List.{List}
 use Prim.Native.Nat.{ℕ, _-_, _<_}
 use lib.Dec.{ltb}
@@ -23,13 +23,9 @@ abbrev pub Tabled : List ℕ → ℕ → Pair ℕ → Type 0
 Tabled t n p = (k : ℕ) × (k < n) × PairRow (rowAt t k) p
 
 -- what stands at a place that is used or not: nothing, a tag, or a nonterminal
-abbrev pub pickSlot : Bool → Slot → Slot → Slot
-pickSlot true a b = a
-pickSlot false a b = b
-
 unfoldable pub slotOf : Bool → ℕ → Slot
 slotOf used b =
-    pickSlot used (pickSlot (ltb b 32) (Single false b) (pickSlot (ltb b 64) (Single true (b - 32)) (Rows (b - 64)))) Absent
+    cond used (cond (ltb b 32) (Single false b) (cond (ltb b 64) (Single true (b - 32)) (Rows (b - 64)))) Absent
 
 -- the slots of rule i
 abbrev pub leftSlot : List ℕ → ℕ → Slot

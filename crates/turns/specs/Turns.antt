@@ -9,8 +9,7 @@ use lib.ListN.{length, getD}
 use Rattle.words.specs.Reduced.{Stack, bottom, push, tags}
 use Rattle.words.specs.Reader.{Outcome, reduced, differ, join}
 use Rattle.hedge.specs.Operations.{relations, accepts}
-use Rattle.stack.specs.Held.{tagOf, stackOf}
-use Rattle.stack.specs.Steps.{Holds}
+use Rattle.stack.specs.Held.{tagOf, stackOf, Holds}
 use Rattle.trees.specs.Events.{Pair}
 use Rattle.rows.specs.Tables.{rowsOf, tableOf, among}
 use Rattle.rows.specs.Packed.{nonterminalIn, RowOf}

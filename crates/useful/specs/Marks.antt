@@ -1,7 +1,7 @@
 -- Marks of nonterminals as the bits of a number, and the rules as they are lent. Document 01: at most 64 nonterminals; a used symbol from
 -- 64 on is a nonterminal.
 use mathlib.Core.Path.{_≡_}
-use mathlib.Core.Bool.{Bool, true, false, _&&_}
+use mathlib.Core.Bool.{Bool, true, _&&_, cond}
 use mathlib.Core.List.{List, [], _∷_}
 use mathlib.Core.Logic.{_↔_}
 use Prim.Native.Nat.{ℕ, _-_, _/_, _^_, _≤_, _<_}
@@ -14,12 +14,8 @@ use Rattle.template.specs.Grammar.{Symbol, tag, nonterminal, rightSide, Gives}
 use Rattle.trees.specs.Trees.{Productive, Reached}
 
 -- at a place of a right side: the first where the place is in use and its byte stands for a nonterminal, else the second
-abbrev pub pick : {A : Type 0} → Bool → A → A → A
-pick true x y = x
-pick false x y = y
-
 unfoldable pub atSlot : {A : Type 0} → Bool → ℕ → A → A → A
-atSlot used byte x y = pick (used && (leb 64 byte && ltb byte 128)) x y
+atSlot used byte x y = cond (used && (leb 64 byte && ltb byte 128)) x y
 
 -- no nonterminal stands at the place, or a marked one
 unfoldable pub slotMarked : Bool → ℕ → ℕ → Bool

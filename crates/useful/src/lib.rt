@@ -6,7 +6,6 @@ ghost use mathlib.Core.Logic.{_↔_};
 ghost use Prim.Native.Nat.{_/_, _<_};
 ghost use lib.ListN.{length};
 ghost use Rattle.hedge.specs.Relation.{bit};
-ghost use Rattle.hedge.specs.Schema.{field};
 ghost use Rattle.template.specs.Grammar.{rightSide, Gives};
 ghost use Rattle.trees.specs.Trees.{Reached};
 ghost use Rattle.useful.specs.Marks.{slotMarked, withMark, withSlot, Ruled, AllMarked, MarksAll, Fruitful, Passed};
@@ -26,14 +25,6 @@ fn mark(marks: u64, x: usize) -> u64
     ensures { λ r. ⌜ r ≡ withMark marks x ⌝ }
 {
     marks | (1u64 << x)
-}
-
-// Field j of rule i.
-fn field(rules: &[u8], i: usize, j: usize) -> usize
-    requires { ⌜ (i < length (now rules) / 4) × (j < 4) ⌝ }
-    ensures { λ r. ⌜ (r ≡ field (now (rules .entry)) i j) × (r < 256) ⌝ }
-{
-    words::wide(rules[i * 4 + j])
 }
 
 // Is the symbol at a place no nonterminal, or a marked one?
@@ -56,9 +47,9 @@ fn all_marked(rules: &[u8], i: usize, marks: u64) -> bool
     requires { ⌜ i < length (now rules) / 4 ⌝ }
     ensures { λ r. ⌜ (r ≡ true) ↔ AllMarked (bit marks) (rightSide (now (rules .entry)) i) ⌝ }
 {
-    let n = field(rules, i, 1);
-    symbol_marked(0 < n, field(rules, i, 2), marks)
-        & symbol_marked(1 < n, field(rules, i, 3), marks)
+    let n = hedge::field(rules, i, 1);
+    symbol_marked(0 < n, hedge::field(rules, i, 2), marks)
+        & symbol_marked(1 < n, hedge::field(rules, i, 3), marks)
 }
 
 // The marks with the left side of rule i, where its right side is all marked.
@@ -68,7 +59,7 @@ fn step_up(rules: &[u8], i: usize, marks: u64) -> u64
     ensures { λ r. ⌜ Passed (Fruitful (now (rules .entry))) (KeptUp (now (rules .entry)) i) marks r ⌝ }
 {
     if all_marked(rules, i, marks) {
-        return mark(marks, field(rules, i, 0));
+        return mark(marks, hedge::field(rules, i, 0));
     }
     marks
 }
@@ -123,11 +114,11 @@ fn step_down(rules: &[u8], fruitful: u64, i: usize, marks: u64) -> u64
     requires { ⌜ i < length (now rules) / 4 ⌝ }
     ensures { λ r. ⌜ Passed (Reached (Gives (now (rules .entry)))) (KeptDown (now (rules .entry)) fruitful i) marks r ⌝ }
 {
-    if marked(marks, field(rules, i, 0)) {
+    if marked(marks, hedge::field(rules, i, 0)) {
         if all_marked(rules, i, fruitful) {
-            let n = field(rules, i, 1);
-            let m = mark_symbol(0 < n, field(rules, i, 2), marks);
-            return mark_symbol(1 < n, field(rules, i, 3), m);
+            let n = hedge::field(rules, i, 1);
+            let m = mark_symbol(0 < n, hedge::field(rules, i, 2), marks);
+            return mark_symbol(1 < n, hedge::field(rules, i, 3), m);
         }
     }
     marks

@@ -17,7 +17,7 @@ use Rattle.template.specs.Layout.{partOf, templateRules, schemaRules, endingSta
 use Rattle.template.specs.Order.{tests, firstFault, shapeOf, verdict, reading, IsSound}
 use Rattle.template.proofs.ListLaws.{part-is}
 use Rattle.template.proofs.SoundLaws.{sound-reading, sound-file}
-use Rattle.view.specs.Views.{templatesOf, schemaOf, endingsOf, ofSound, templatesIn, schemaIn, endingsIn}
+use Rattle.view.specs.Views.{templatesListed, schemaListed, endingsListed, ofSound, templatesIn, schemaIn, endingsIn}
 
 -- a list that a sound reading gives and a bad one does not
 module _ (list : List ℕ → Reading → List ℕ) (held : List ℕ → List ℕ) (sound : (f : List ℕ) → list f (Sound (shapeOf f)) ≡ held f)
@@ -30,17 +30,17 @@ module _ (list : List ℕ → Reading → List ℕ) (held : List ℕ → List �
   unfolding reading
   shown-held f = shown-by f (firstFault (tests f))
 
-pub templates-shown : (f : List ℕ) → templatesOf f (reading f) ≡ templatesIn f
-unfolding templatesOf
-templates-shown = shown-held templatesOf templateRules (λ f. refl) (λ f p. refl)
+pub templates-shown : (f : List ℕ) → templatesListed f (reading f) ≡ templatesIn f
+unfolding templatesListed
+templates-shown = shown-held templatesListed templateRules (λ f. refl) (λ f p. refl)
 
-pub schema-shown : (f : List ℕ) → schemaOf f (reading f) ≡ schemaIn f
-unfolding schemaOf
-schema-shown = shown-held schemaOf schemaRules (λ f. refl) (λ f p. refl)
+pub schema-shown : (f : List ℕ) → schemaListed f (reading f) ≡ schemaIn f
+unfolding schemaListed
+schema-shown = shown-held schemaListed schemaRules (λ f. refl) (λ f p. refl)
 
-pub endings-shown : (f : List ℕ) → endingsOf f (reading f) ≡ endingsIn f
-unfolding endingsOf
-endings-shown = shown-held endingsOf endingStates (λ f. refl) (λ f p. refl)
+pub endings-shown : (f : List ℕ) → endingsListed f (reading f) ≡ endingsIn f
+unfolding endingsListed
+endings-shown = shown-held endingsListed endingStates (λ f. refl) (λ f p. refl)
 
 -- a part and the rest of the file behind it, the last part, and all three
 part-then : (f xs : List ℕ) (at len : ℕ) → at + len ≤ length f → xs ≡ drop (at + len) f → partOf f at len ++ xs ≡ drop at f

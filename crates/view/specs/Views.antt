@@ -7,17 +7,17 @@ use Rattle.template.specs.declared.Reading.{Reading}
 use Rattle.template.specs.declared.Reading.the-variants.{Sound, Bad}
 
 -- what is shown of a file that was read so: the parts that its numbers say, and nothing of a bad one
-unfoldable pub templatesOf : List ℕ → Reading → List ℕ
-templatesOf f (Sound s) = partOf f 16 (4 * s .templates)
-templatesOf f (Bad p) = []
+unfoldable pub templatesListed : List ℕ → Reading → List ℕ
+templatesListed f (Sound s) = partOf f 16 (4 * s .templates)
+templatesListed f (Bad p) = []
 
-unfoldable pub schemaOf : List ℕ → Reading → List ℕ
-schemaOf f (Sound s) = partOf f (16 + 4 * s .templates) (4 * s .schema)
-schemaOf f (Bad p) = []
+unfoldable pub schemaListed : List ℕ → Reading → List ℕ
+schemaListed f (Sound s) = partOf f (16 + 4 * s .templates) (4 * s .schema)
+schemaListed f (Bad p) = []
 
-unfoldable pub endingsOf : List ℕ → Reading → List ℕ
-endingsOf f (Sound s) = partOf f (16 + 4 * s .templates + 4 * s .schema) (s .endings)
-endingsOf f (Bad p) = []
+unfoldable pub endingsListed : List ℕ → Reading → List ℕ
+endingsListed f (Sound s) = partOf f (16 + 4 * s .templates + 4 * s .schema) (s .endings)
+endingsListed f (Bad p) = []
 
 -- the list where the file is sound, nothing where it is bad
 abbrev pub ofSound : Reading → List ℕ → List ℕ

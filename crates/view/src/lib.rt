@@ -3,7 +3,7 @@
 ghost use mathlib.Core.Path.{_≡_};
 ghost use mathlib.Core.List.{[]};
 ghost use Rattle.template.specs.Order.{reading};
-ghost use Rattle.view.specs.Views.{templatesOf, schemaOf, endingsOf, templatesIn, schemaIn, endingsIn};
+ghost use Rattle.view.specs.Views.{templatesListed, schemaListed, endingsListed, templatesIn, schemaIn, endingsIn};
 
 // The file, and what reading it answered: sound with its numbers, or bad (answer 7) with the place of its first fault.
 pub struct View<'a> {
@@ -20,7 +20,7 @@ fn empty(file: &[u8]) -> &[u8]
 
 // The template rules of a file that was read so.
 pub fn templates_of(file: &[u8], reading: template::Reading) -> &[u8]
-    ensures { λ r. ⌜ now r ≡ templatesOf (now (file .entry)) reading ⌝ }
+    ensures { λ r. ⌜ now r ≡ templatesListed (now (file .entry)) reading ⌝ }
 {
     match reading {
         template::Reading::Sound(s) => template::template_rules(file, s.templates),
@@ -30,7 +30,7 @@ pub fn templates_of(file: &[u8], reading: template::Reading) -> &[u8]
 
 // The schema rules of a file that was read so.
 pub fn schema_of(file: &[u8], reading: template::Reading) -> &[u8]
-    ensures { λ r. ⌜ now r ≡ schemaOf (now (file .entry)) reading ⌝ }
+    ensures { λ r. ⌜ now r ≡ schemaListed (now (file .entry)) reading ⌝ }
 {
     match reading {
         template::Reading::Sound(s) => template::schema_rules(file, s.templates, s.schema),
@@ -40,7 +40,7 @@ pub fn schema_of(file: &[u8], reading: template::Reading) -> &[u8]
 
 // The ending states of a file that was read so.
 pub fn endings_of(file: &[u8], reading: template::Reading) -> &[u8]
-    ensures { λ r. ⌜ now r ≡ endingsOf (now (file .entry)) reading ⌝ }
+    ensures { λ r. ⌜ now r ≡ endingsListed (now (file .entry)) reading ⌝ }
 {
     match reading {
         template::Reading::Sound(s) => {
@@ -62,21 +62,21 @@ pub fn shown<'a>(file: &'a [u8]) -> View<'a>
 
 // The template rules, as a part of the lent file.
 pub fn templates<'a>(v: View<'a>) -> &'a [u8]
-    ensures { λ r. ⌜ now r ≡ templatesOf (now (v .entry .file)) (v .entry .reading) ⌝ }
+    ensures { λ r. ⌜ now r ≡ templatesListed (now (v .entry .file)) (v .entry .reading) ⌝ }
 {
     templates_of(v.file, v.reading)
 }
 
 // The schema rules, as a part of the lent file.
 pub fn schema<'a>(v: View<'a>) -> &'a [u8]
-    ensures { λ r. ⌜ now r ≡ schemaOf (now (v .entry .file)) (v .entry .reading) ⌝ }
+    ensures { λ r. ⌜ now r ≡ schemaListed (now (v .entry .file)) (v .entry .reading) ⌝ }
 {
     schema_of(v.file, v.reading)
 }
 
 // The ending states, as a part of the lent file.
 pub fn endings<'a>(v: View<'a>) -> &'a [u8]
-    ensures { λ r. ⌜ now r ≡ endingsOf (now (v .entry .file)) (v .entry .reading) ⌝ }
+    ensures { λ r. ⌜ now r ≡ endingsListed (now (v .entry .file)) (v .entry .reading) ⌝ }
 {
     endings_of(v.file, v.reading)
 }

@@ -2,7 +2,7 @@
 -- the same tests: a start tag, an end tag, a nonterminal; where the rule is too short for a place the symbol and the slot are missing.
 -- Then what a choice is: one form, one that fits, the same where the rows below n are. Assumes nothing.
 use mathlib.Core.Path.{_≡_, refl, sym, _∙_}
-use mathlib.Core.Bool.{Bool, true, false}
+use mathlib.Core.Bool.{Bool, true, false, cond}
 use mathlib.Core.List.{List, [], _∷_, map}
 use lib.ListN.{take}
 use mathlib.Core.Logic.{_↔_}
@@ -14,9 +14,9 @@ use Rattle.words.specs.Tags.{start, end}
 use Rattle.words.specs.Reduced.{Stack}
 use Rattle.hedge.specs.Schema.{field}
 use Rattle.hedge.specs.Operations.{relations, unit}
-use Rattle.template.specs.Grammar.{tag, nonterminal, pickSymbol, symbolOf, rightSide}
+use Rattle.template.specs.Grammar.{tag, nonterminal, symbolOf, rightSide}
 use Rattle.trees.specs.Results.{SymbolForm, FormAt}
-use Rattle.turns.specs.Slots.{Tabled, pickSlot, slotOf, leftSlot, rightSlot, Choice, choices, newFrom, rowAt}
+use Rattle.turns.specs.Slots.{Tabled, slotOf, leftSlot, rightSlot, Choice, choices, newFrom, rowAt}
 use Rattle.rows.specs.Packed.{nonterminalIn}
 use Rattle.rows.proofs.RowLaws.{row-pair, row-nonterminal}
 use Rattle.turns.specs.Turns.{slotFits, FormOf}
@@ -32,8 +32,8 @@ module _ (states : ℕ) (schema endings t : List ℕ) (n : ℕ) (s : Stack ℕ) 
 
   symbol-choice : (b : ℕ) (low middle : Bool)
       → SymbolForm (relations 8 states schema endings) (Tabled t n)
-      (pickSymbol low (tag (start b)) (pickSymbol middle (tag (end (b - 32))) (nonterminal (b - 64)))) s c
-      ↔ Chosen (unit 8 states) t n (pickSlot low (Single false b) (pickSlot middle (Single true (b - 32)) (Rows (b - 64)))) s c
+      (cond low (tag (start b)) (cond middle (tag (end (b - 32))) (nonterminal (b - 64)))) s c
+      ↔ Chosen (unit 8 states) t n (cond low (Single false b) (cond middle (Single true (b - 32)) (Rows (b - 64)))) s c
   symbol-choice b true middle = (λ (p, q). (0, omega arith, (refl, p, q)), λ (k, l, (e, p, q)). (p, q))
   symbol-choice b false true = (λ (p, q). (0, omega arith, (refl, p, q)), λ (k, l, (e, p, q)). (p, q))
   symbol-choice b false false = (λ (k, l, r). (k, l, (l, r)), λ (k, l, (l′, r)). (k, l, r))

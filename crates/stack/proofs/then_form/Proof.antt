@@ -2,7 +2,8 @@
 -- k + 1, a refusal is the answer, and after all tags it is the join (FormLaws). Assumes nothing.
 use mathlib.Core.Path.{_≡_}
 use Prim.Native.Nat.{_≤_, _-_}
-use Rattle.stack.specs.Steps.{Holds, held}
+use Rattle.stack.specs.Held.{Holds}
+use Rattle.stack.specs.Steps.{held}
 use Rattle.stack.proofs.FormLaws.{turned, turned-kept, form-laws}
 use Rattle.stack.proofs.then_form.Statement.{statement}
 use Rattle.stack.proofs.then_form.Tie as tie

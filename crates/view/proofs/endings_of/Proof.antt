@@ -1,6 +1,6 @@
 -- By the reading: of a sound file the part that its numbers say, of a bad one the empty part. Assumes nothing.
 use borrow.Author.Needs.{needs}
-use Rattle.view.specs.Views.{endingsOf}
+use Rattle.view.specs.Views.{endingsListed}
 use Rattle.view.proofs.endings_of.Statement.{statement}
 use Rattle.view.proofs.endings_of.Tie as tie
 
@@ -17,11 +17,11 @@ empty-requires : tie.Need-empty-requires
 empty-requires c κs = search needs
 
 returns : tie.Need-returns
-unfolding endingsOf
+unfolding endingsListed
 returns c = rw (c .before .before .reading .given .1) (c .ending-states .ensures)
 
 returns-2 : tie.Need-returns-2
-unfolding endingsOf
+unfolding endingsListed
 returns-2 c = rw (c .before .enum-told .given .1) (c .empty .ensures)
 
 pub endings-of-spec : {M : Type 1} → statement M

@@ -2,7 +2,7 @@
 use contract.Running.{givenOf, tables, tablesOf}
 use denote.Triple.Spec.{tripleOf}
 use denote.Triple.Table.{entered, cited}
-use Rattle.view.specs.Views.{schemaOf}
+use Rattle.view.specs.Views.{schemaListed}
 use Rattle.view.proofs.GetterWalk.{Callee, getter-meets}
 use Rattle.view.proofs.schema_of.Symbol as callee
 use Rattle.view.proofs.schema_of.Met as proved
@@ -16,5 +16,5 @@ unfolding code.routine tablesOf
 schema-spec 𝓤 H 𝓜 𝓖 𝓡 =
     entered 𝓤 H (tripleOf 𝓤 H (𝓖 .A) getter.signature (getter.spec 𝓤 H (𝓖 .A) (𝓜 .mem) (𝓡 .run)))
     (tables 𝓤 H 𝓜 𝓡 code.env .C) (tables 𝓤 H 𝓜 𝓡 code.env .Λ) name code.function (code.unfolded 𝓤 H 𝓜 𝓡)
-    (getter-meets 𝓤 schemaOf H (𝓖 .A) (givenOf 𝓤 H 𝓜 𝓖) callee.name (tablesOf 𝓤 H 𝓜 (tables 𝓤 H 𝓜 𝓡 code.env))
-    (cited 𝓤 H (Callee 𝓤 schemaOf H (𝓖 .A)) 𝓜 𝓡 code.env callee.name callee.routine code.calls-view·schema-of (proved.met 𝓤 H 𝓜 𝓖 𝓡)))
+    (getter-meets 𝓤 schemaListed H (𝓖 .A) (givenOf 𝓤 H 𝓜 𝓖) callee.name (tablesOf 𝓤 H 𝓜 (tables 𝓤 H 𝓜 𝓡 code.env))
+    (cited 𝓤 H (Callee 𝓤 schemaListed H (𝓖 .A)) 𝓜 𝓡 code.env callee.name callee.routine code.calls-view·schema-of (proved.met 𝓤 H 𝓜 𝓖 𝓡)))
