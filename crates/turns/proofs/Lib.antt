@@ -1,3 +1,4 @@
+pub mod FormsLaws
 pub mod LoadLaws
 pub mod NoteLaws
 pub mod TurnLaws

@@ -20,7 +20,7 @@ use Rattle.rows.specs.Packed.{nonterminalIn, endsIn, startsIn, namesIn, RowOf}
 use Rattle.rows.proofs.RowLaws.{row-nonterminal, row-holds, row-form, row-last}
 use Rattle.rows.proofs.TableLaws.{row-part}
 use Rattle.turns.specs.Slots.{rowAt, slotOf, leftSlot, rightSlot}
-use Rattle.turns.specs.Turns.{slotFits, leftsOf, rightFrom, SomePairRow, Choosable, TagForm, FormOf, Loads}
+use Rattle.turns.specs.Turns.{slotFits, rightFrom, SomePairRow, Choosable, TagForm, FormOf, Loads}
 use Rattle.turns.specs.declared.Slot.{Slot}
 use Rattle.turns.specs.declared.Slot.the-variants.{Absent, Single, Rows}
 use Rattle.turns.specs.declared.Loaded.{Loaded}
@@ -61,13 +61,6 @@ module _ (rules : List ℕ) (i : ℕ) where
   rule-right s e = e
 
 -- ---- which choices are joined
-
-module _ (marked useful : Bool) (told : marked ≡ useful) (lefts : ℕ) where
-  pub lefts-some : (count : ℕ) → marked ≡ true → count ≡ lefts → count ≡ leftsOf useful lefts
-  lefts-some count e q = rw (← told, e) q
-
-  pub lefts-none : marked ≡ false → 0 ≡ leftsOf useful lefts
-  lefts-none e = rw (← told, e)
 
 module _ (r fits : Bool) (told : r ≡ fits) (j newLeft newRight rights : ℕ) where
   pub right-new : r ≡ true → j < newLeft → newRight ≡ rightFrom fits (ltb j newLeft) newRight rights
@@ -189,8 +182,6 @@ pub ruleset loads = (
   rule-of,
   rule-left,
   rule-right,
-  lefts-some,
-  lefts-none,
   right-new,
   right-all,
   right-none,

@@ -1,7 +1,7 @@
 -- What is noted of a form (specs/Turns.antt), in the words in which `is_page`, `invalid_form` and `note_form` have it, for `search notes`:
--- a form with tags is no page's, one without goes by its relation; the row of a form in the arrays stands among the others, finds no
--- room, or goes behind them. Assumes nothing.
-use mathlib.Core.Path.{_≡_, refl, sym, _∙_}
+-- a form with tags is no page's, one without goes by its relation; the row of a form in the arrays is not looked for where one found no
+-- room before, stands among the others, finds no room, or goes behind them. Assumes nothing.
+use mathlib.Core.Path.{_≡_, refl, sym, ap, _∙_}
 use mathlib.Core.Bool.{Bool, true, false, not, _||_}
 use mathlib.Core.List.{List, [], _∷_, _++_}
 use Prim.Native.Nat.{ℕ, _+_, _≤_, _<_}
@@ -18,9 +18,9 @@ use Rattle.stack.proofs.HeldLaws.{tags-held}
 use Rattle.rows.specs.Tables.{rowsOf, tableOf, among}
 use Rattle.rows.specs.Packed.{packed, RowOf}
 use Rattle.rows.proofs.PackedLaws.{packed-row}
-use Rattle.turns.specs.Turns.{isPage, invalidForm, FormNoted, stands, finds-no-room, goes-behind}
+use Rattle.turns.specs.Turns.{isPage, invalidForm, afterForm, FormNoted, was-crowded, stands, finds-no-room, goes-behind}
 use Rattle.turns.specs.declared.Notes.{Notes}
-use Rattle.turns.specs.declared.Turn.the-variants.{Kept}
+use Rattle.turns.specs.declared.Tally.{Tally}
 
 -- ---- the test of a page
 
@@ -47,31 +47,45 @@ module _ (endings : List ℕ) (count value : ℕ) where
 
 -- ---- a form in the arrays
 
-module _ (endings names values : List ℕ) (x e s : ℕ) (t : List ℕ) (m : ℕ) (notes : Notes) (invalid found : Bool) (row own : List ℕ)
-    (told : (form : Stack ℕ) → tags form ≡ e + s → invalid ≡ invalidForm endings x form (getD values (e + s) 0))
-    (copied : own ≡ names) (row-is : row ≡ packed x e s own values) (told-found : found ≡ among row (rowsOf m t))
-    (holds : Holds e s names values) (small : Fits w8 x) (bytes : (k : ℕ) → Fits w8 (getD own k 0)) where
-  invalid-is : invalid ≡ invalidForm endings x (stackOf e names values (e + s)) (getD values (e + s) 0)
-  invalid-is = told (stackOf e names values (e + s)) (tags-held e (e + s) names values)
+module _ (endings names values : List ℕ) (x e s : ℕ) (t : List ℕ) (m : ℕ) (notes : Notes) (r : Tally) (invalid : Bool)
+    (invalid-is : r .notes .invalid ≡ (notes .invalid || invalid)) (deep-is : r .notes .deep ≡ notes .deep)
+    (told : (form : Stack ℕ) → tags form ≡ e + s → invalid ≡ invalidForm endings x form (getD values (e + s) 0)) where
+  tally-is : (n : ℕ) (crowded : Bool) → r .rows ≡ n → r .notes .crowded ≡ crowded
+      → record { rows = n; notes = afterForm endings x (stackOf e names values (e + s)) (getD values (e + s) 0) notes crowded } ≡ r
+  tally-is n crowded rows-are crowded-is =
+      let noted = told (stackOf e names values (e + s)) (tags-held e (e + s) names values) in
+      let both : notes .invalid || invalidForm endings x (stackOf e names values (e + s)) (getD values (e + s) 0) ≡ r .notes .invalid =
+      ap (λ b. notes .invalid || b) (sym noted) ∙ sym invalid-is in
+      λ i. record {
+        rows = sym rows-are i;
+        notes = record { invalid = both i; deep = sym deep-is i; crowded = sym crowded-is i };
+      }
 
-  packs : RowOf row x (stackOf e names values (e + s)) (getD values (e + s) 0)
-  packs =
-      rw (row-is, copied)
-      (packed-row x e s names values (omega (arith, small .fits)) (λ k. omega (arith, (rw copied at (bytes k)) .fits)) holds)
+  pub note-crowded : r .rows ≡ m → r .notes .crowded ≡ true → notes .crowded ≡ true
+      → FormNoted endings x (stackOf e names values (e + s)) (getD values (e + s) 0) t m notes r t
+  note-crowded q k f = rw (← tally-is m true q k) (was-crowded f)
 
-  pub note-stands : found ≡ true
-      → FormNoted endings x (stackOf e names values (e + s)) (getD values (e + s) 0) t m notes
-      (Kept m (record { invalid = notes .invalid || invalid; deep = notes .deep; crowded = notes .crowded })) t
-  note-stands f = rw invalid-is (stands row packs (sym told-found ∙ f))
+  module _ (found : Bool) (row own : List ℕ) (copied : own ≡ names) (row-is : row ≡ packed x e s own values)
+      (told-found : found ≡ among row (rowsOf m t)) (holds : Holds e s names values) (small : Fits w8 x)
+      (bytes : (k : ℕ) → Fits w8 (getD own k 0)) where
+    packs : RowOf row x (stackOf e names values (e + s)) (getD values (e + s) 0)
+    packs =
+        rw (row-is, copied)
+        (packed-row x e s names values (omega (arith, small .fits)) (λ k. omega (arith, (rw copied at (bytes k)) .fits)) holds)
 
-  pub note-no-room : found ≡ false → 256 ≤ m
-      → FormNoted endings x (stackOf e names values (e + s)) (getD values (e + s) 0) t m notes
-      (Kept m (record { invalid = notes .invalid || invalid; deep = notes .deep; crowded = true })) t
-  note-no-room f l = rw invalid-is (finds-no-room row packs (sym told-found ∙ f) l)
+    pub note-stands : r .rows ≡ m → r .notes .crowded ≡ notes .crowded → found ≡ true
+        → FormNoted endings x (stackOf e names values (e + s)) (getD values (e + s) 0) t m notes r t
+    note-stands q k f = rw (← tally-is m (notes .crowded) q k) (stands row packs (sym told-found ∙ f))
 
-  pub note-behind : (t′ : List ℕ) → found ≡ false → m < 256 → t′ ≡ tableOf (rowsOf m t ++ (row ∷ [])) t
-      → FormNoted endings x (stackOf e names values (e + s)) (getD values (e + s) 0) t m notes
-      (Kept (m + 1) (record { invalid = notes .invalid || invalid; deep = notes .deep; crowded = notes .crowded })) t′
-  note-behind t′ f l q = rw invalid-is (goes-behind row t′ packs (sym told-found ∙ f) l q)
+    pub note-no-room : r .rows ≡ m → r .notes .crowded ≡ true → found ≡ false → 256 ≤ m
+        → FormNoted endings x (stackOf e names values (e + s)) (getD values (e + s) 0) t m notes r t
+    note-no-room q k f l = rw (← tally-is m true q k) (finds-no-room row packs (sym told-found ∙ f) l)
 
-pub ruleset notes = (page-tags, page-none, start-invalid, other-valid, note-stands, note-no-room, note-behind, needs)
+    pub note-behind : (t′ : List ℕ) → r .rows ≡ m + 1 → r .notes .crowded ≡ notes .crowded → found ≡ false → m < 256
+        → t′ ≡ tableOf (rowsOf m t ++ (row ∷ [])) t
+        → FormNoted endings x (stackOf e names values (e + s)) (getD values (e + s) 0) t m notes r t′
+    note-behind t′ q k f l a =
+        rw (← tally-is (m + 1) (notes .crowded) q k) (goes-behind row t′ packs (sym told-found ∙ f) l a)
+
+pub ruleset notes =
+    (page-tags, page-none, start-invalid, other-valid, note-crowded, note-stands, note-no-room, note-behind, needs)

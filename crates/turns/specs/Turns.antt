@@ -3,11 +3,12 @@
 use mathlib.Core.Path.{_≡_}
 use mathlib.Core.Bool.{Bool, true, false, not, _&&_, _||_}
 use mathlib.Core.List.{List, [], _∷_, _++_}
-use Prim.Native.Nat.{ℕ, _+_, _*_, _≤_, _<_}
+use Prim.Native.Nat.{ℕ, suc, _+_, _*_, _≤_, _<_}
 use lib.Dec.{eqb}
 use lib.ListN.{length, getD}
 use Rattle.words.specs.Reduced.{Stack, bottom, push, tags}
 use Rattle.words.specs.Reader.{Outcome, reduced, differ, join}
+use Rattle.hedge.specs.Relation.{bit}
 use Rattle.hedge.specs.Operations.{relations, accepts}
 use Rattle.stack.specs.Held.{tagOf, stackOf, Holds}
 use Rattle.trees.specs.Events.{Pair}
@@ -19,6 +20,7 @@ use Rattle.turns.specs.declared.Slot.the-variants.{Absent, Single, Rows}
 use Rattle.turns.specs.declared.Notes.{Notes}
 use Rattle.turns.specs.declared.Loaded.{Loaded}
 use Rattle.turns.specs.declared.Loaded.the-variants.{Form, Nothing}
+use Rattle.turns.specs.declared.Tally.{Tally}
 use Rattle.turns.specs.declared.Turn.{Turn}
 use Rattle.turns.specs.declared.Turn.the-variants.{Kept, Mismatch}
 
@@ -30,10 +32,15 @@ slotFits Absent k t = true
 slotFits (Single closes a) k t = true
 slotFits (Rows x) k t = eqb (nonterminalIn (rowAt t k)) x
 
--- the left choices of a rule: none where its left side is not useful
+-- the left choices of a rule: none where no nonterminal is marked for it
 abbrev pub leftsOf : Bool → ℕ → ℕ
 leftsOf true lefts = lefts
 leftsOf false lefts = 0
+
+-- the first left choice that is walked, where some right choice is new or none is
+abbrev pub leftFrom : Bool → ℕ → ℕ
+leftFrom true newLeft = 0
+leftFrom false newLeft = newLeft
 
 -- the first right choice that is joined with a left choice that fits or not and is old or not
 abbrev pub rightFrom : Bool → Bool → ℕ → ℕ → ℕ
@@ -84,31 +91,43 @@ abbrev pub afterForm : List ℕ → ℕ → Stack ℕ → ℕ → Notes → Bool
 afterForm endings x s c notes crowded =
     record { invalid = notes .invalid || invalidForm endings x s c; deep = notes .deep; crowded = crowded }
 
--- a form of x of at most 16 tags: its row stands among the m rows, finds no room, or goes behind them
-pub data FormNoted (endings : List ℕ) (x : ℕ) (s : Stack ℕ) (c : ℕ) (t : List ℕ) (m : ℕ) (notes : Notes) : Turn → List ℕ → Type 0 where
+-- a form of x of at most 16 tags: its row stands among the m rows, finds no room, or goes behind them; where one found no room before,
+-- it is not looked for
+pub data FormNoted (endings : List ℕ) (x : ℕ) (s : Stack ℕ) (c : ℕ) (t : List ℕ) (m : ℕ) (notes : Notes) : Tally → List ℕ → Type 0 where
+  was-crowded : notes .crowded ≡ true
+      → FormNoted endings x s c t m notes (record { rows = m; notes = afterForm endings x s c notes true }) t
   stands : (row : List ℕ) → RowOf row x s c → among row (rowsOf m t) ≡ true
-      → FormNoted endings x s c t m notes (Kept m (afterForm endings x s c notes (notes .crowded))) t
+      → FormNoted endings x s c t m notes (record { rows = m; notes = afterForm endings x s c notes (notes .crowded) }) t
   finds-no-room : (row : List ℕ) → RowOf row x s c → among row (rowsOf m t) ≡ false → 256 ≤ m
-      → FormNoted endings x s c t m notes (Kept m (afterForm endings x s c notes true)) t
+      → FormNoted endings x s c t m notes (record { rows = m; notes = afterForm endings x s c notes true }) t
   goes-behind : (row t′ : List ℕ) → RowOf row x s c → among row (rowsOf m t) ≡ false → m < 256
       → t′ ≡ tableOf (rowsOf m t ++ (row ∷ [])) t
-      → FormNoted endings x s c t m notes (Kept (m + 1) (afterForm endings x s c notes (notes .crowded))) t′
+      → FormNoted endings x s c t m notes (record { rows = m + 1; notes = afterForm endings x s c notes (notes .crowded) }) t′
 
--- an outcome of x: a mismatch, more than 16 tags, or a form of at most 16
-pub data OutcomeNoted (endings : List ℕ) (x : ℕ) (o : Outcome ℕ) (t : List ℕ) (m : ℕ) (notes : Notes) : Turn → List ℕ → Type 0 where
-  mismatches : (a b : ℕ) → o ≡ differ a b → OutcomeNoted endings x o t m notes Mismatch t
+-- a form of each marked nonterminal below n, in turn
+pub data FormsNoted (endings : List ℕ) (marks : ℕ) (s : Stack ℕ) (c : ℕ) (t : List ℕ) (m : ℕ) (notes : Notes)
+    : ℕ → Tally → List ℕ → Type 0 where
+  forms-none : FormsNoted endings marks s c t m notes 0 (record { rows = m; notes = notes }) t
+  forms-other : {x : ℕ} {r : Tally} {t′ : List ℕ} → FormsNoted endings marks s c t m notes x r t′ → bit marks x ≡ false
+      → FormsNoted endings marks s c t m notes (suc x) r t′
+  forms-more : {x : ℕ} {r r′ : Tally} {t′ t″ : List ℕ} → FormsNoted endings marks s c t m notes x r t′ → bit marks x ≡ true
+      → FormNoted endings x s c t′ (r .rows) (r .notes) r′ t″ → FormsNoted endings marks s c t m notes (suc x) r′ t″
+
+-- an outcome of every marked nonterminal: a mismatch, more than 16 tags, or a form of at most 16
+pub data OutcomeNoted (endings : List ℕ) (marks : ℕ) (o : Outcome ℕ) (t : List ℕ) (m : ℕ) (notes : Notes) : Turn → List ℕ → Type 0 where
+  mismatches : (a b : ℕ) → o ≡ differ a b → OutcomeNoted endings marks o t m notes Mismatch t
   is-deep : (s : Stack ℕ) (c : ℕ) → o ≡ reduced s c → 16 < tags s
-      → OutcomeNoted endings x o t m notes
-      (Kept m (record { invalid = notes .invalid || eqb x 0; deep = true; crowded = notes .crowded })) t
-  is-form : (s : Stack ℕ) (c : ℕ) (r : Turn) (t′ : List ℕ) → o ≡ reduced s c → tags s ≤ 16
-      → FormNoted endings x s c t m notes r t′ → OutcomeNoted endings x o t m notes r t′
+      → OutcomeNoted endings marks o t m notes
+      (Kept m (record { invalid = notes .invalid || bit marks 0; deep = true; crowded = notes .crowded })) t
+  is-form : (s : Stack ℕ) (c : ℕ) (r : Tally) (t′ : List ℕ) → o ≡ reduced s c → tags s ≤ 16
+      → FormsNoted endings marks s c t m notes 64 r t′ → OutcomeNoted endings marks o t m notes (Kept (r .rows) (r .notes)) t′
 
--- choices j and k of two slots under a rule of x: no forms, and nothing changes; or they are joined
-module _ (states : ℕ) (schema endings : List ℕ) (empty : ℕ) (t : List ℕ) (left : Slot) (j : ℕ) (right : Slot) (k x m : ℕ)
+-- choices j and k of two slots under rules of every marked nonterminal: no forms, and nothing changes; or they are joined, once for all
+module _ (states : ℕ) (schema endings : List ℕ) (empty : ℕ) (t : List ℕ) (left : Slot) (j : ℕ) (right : Slot) (k marks m : ℕ)
     (notes : Notes) where
   pub data Turned : Turn → List ℕ → Type 0 where
     no-forms : ((s : Stack ℕ) (c : ℕ) (u : Stack ℕ) (d : ℕ) → FormOf empty t left j s c → FormOf empty t right k u d → ⊥)
         → Turned (Kept m notes) t
     joined : (s : Stack ℕ) (c : ℕ) (u : Stack ℕ) (d : ℕ) (r : Turn) (t′ : List ℕ) → FormOf empty t left j s c
         → FormOf empty t right k u d
-        → OutcomeNoted endings x (join (relations 8 states schema endings) (reduced s c) u d) t m notes r t′ → Turned r t′
+        → OutcomeNoted endings marks (join (relations 8 states schema endings) (reduced s c) u d) t m notes r t′ → Turned r t′

@@ -1,17 +1,19 @@
-// One pair of choices under a rule: two slots of its right side loaded from the rows of a table, joined, and the form noted. What is new goes
-// behind the m rows that are there.
+// One pair of choices under rules with the same right side: its two slots loaded from the rows of a table, joined, and the form noted for the
+// left side of each rule. What is new goes behind the m rows that are there.
 ghost use mathlib.Core.Path.{_≡_};
+ghost use mathlib.Core.Bool.{true, _||_};
 ghost use Prim.Native.Nat.{ℕ, _+_, _*_, _≤_};
 ghost use lib.Dec.{eqb};
 ghost use lib.ListN.{length, getD};
 ghost use Rattle.words.specs.Reduced.{Stack, tags};
+ghost use Rattle.hedge.specs.Relation.{bit};
 ghost use Rattle.hedge.specs.Schema.{EndsBelow};
 ghost use Rattle.stack.specs.Held.{stackOf, Holds};
 ghost use Rattle.stack.specs.Steps.{Schooled};
 ghost use Rattle.rows.specs.Packed.{nonterminalIn, RowOf};
 ghost use Rattle.turns.specs.Slots.{slotOf, rowAt};
 ghost use Rattle.turns.specs.Turns.{SomePairRow, Choosable, TagForm, FormOf, Loads};
-ghost use Rattle.turns.specs.Turns.{isPage, invalidForm, FormNoted, Turned};
+ghost use Rattle.turns.specs.Turns.{isPage, invalidForm, FormNoted, FormsNoted, Turned};
 
 // What stands at a place of a rule's right side: nothing, a tag, or the rows of a nonterminal.
 pub enum Slot {
@@ -31,6 +33,12 @@ pub struct Notes {
 pub enum Loaded {
     Form(usize, usize),
     Nothing,
+}
+
+// So many rows, and these notes.
+pub struct Tally {
+    pub rows: usize,
+    pub notes: Notes,
 }
 
 // One pair of choices: so many rows, and these notes; or a mismatch.
@@ -148,6 +156,20 @@ fn own(names: &[u8; 16]) -> [u8; 16]
     *names
 }
 
+// The tally of m rows, where an invalid page was noted or not, and crowding too.
+fn tallied(m: usize, notes: Notes, invalid: bool, crowded: bool) -> Tally
+    ensures { λ r. ⌜ (r .rows ≡ m) × (r .notes .invalid ≡ invalid) × (r .notes .deep ≡ notes .deep) × (r .notes .crowded ≡ crowded) ⌝ }
+{
+    Tally {
+        rows: m,
+        notes: Notes {
+            invalid: invalid,
+            deep: notes.deep,
+            crowded: crowded,
+        },
+    }
+}
+
 // A form of x: its row goes behind the m others, unless it stands among them or there is no room.
 fn note_form(
     endings: &[u8],
@@ -159,50 +181,77 @@ fn note_form(
     table: &mut [u64],
     m: usize,
     notes: Notes,
-) -> Turn
+) -> Tally
     requires { ⌜ EndsBelow 8 (now endings) ⌝ }
     requires { ⌜ Holds ends starts (now names) (now values) ⌝ }
     requires { ⌜ 5120 ≤ length (now table) ⌝ }
     requires { ⌜ m ≤ 256 ⌝ }
-    ensures { λ r. ⌜ FormNoted (now (endings .entry)) x
-        (stackOf ends (now (names .entry)) (now (values .entry)) (ends + starts))
+    ensures { λ r. ⌜ FormNoted (now (endings .entry)) x (stackOf ends (now (names .entry)) (now (values .entry)) (ends + starts))
         (getD (now (values .entry)) (ends + starts) 0) (now (table .entry)) m notes r (now (table .exit)) ⌝ }
 {
     let invalid = notes.invalid | invalid_form(endings, x, ends, starts, values[ends + starts]);
+    if notes.crowded {
+        return tallied(m, notes, invalid, true);
+    }
     let bytes = own(names);
     let row = rows::pack(x, ends, starts, &bytes, values);
     if rows::holds(table, m, &row) {
-        return Turn::Kept(
-            m,
-            Notes {
-                invalid: invalid,
-                deep: notes.deep,
-                crowded: notes.crowded,
-            },
-        );
+        return tallied(m, notes, invalid, notes.crowded);
     }
     if 256 <= m {
-        return Turn::Kept(
-            m,
-            Notes {
-                invalid: invalid,
-                deep: notes.deep,
-                crowded: true,
-            },
-        );
+        return tallied(m, notes, invalid, true);
     }
     rows::add(table, m, &row);
-    Turn::Kept(
-        m + 1,
-        Notes {
-            invalid: invalid,
-            deep: notes.deep,
-            crowded: notes.crowded,
-        },
-    )
+    tallied(m + 1, notes, invalid, notes.crowded)
 }
 
-// One pair of choices under a rule of x.
+// A form of each marked nonterminal, in turn.
+fn note_forms(
+    endings: &[u8],
+    marks: u64,
+    ends: usize,
+    starts: usize,
+    names: &[u8; 16],
+    values: &[u64; 17],
+    table: &mut [u64],
+    m: usize,
+    notes: Notes,
+) -> Tally
+    requires { ⌜ EndsBelow 8 (now endings) ⌝ }
+    requires { ⌜ Holds ends starts (now names) (now values) ⌝ }
+    requires { ⌜ 5120 ≤ length (now table) ⌝ }
+    requires { ⌜ m ≤ 256 ⌝ }
+    ensures { λ r. ⌜ FormsNoted (now (endings .entry)) marks (stackOf ends (now (names .entry)) (now (values .entry)) (ends + starts))
+        (getD (now (values .entry)) (ends + starts) 0) (now (table .entry)) m notes 64 r (now (table .exit)) ⌝ }
+{
+    let mut found = Tally {
+        rows: m,
+        notes: notes,
+    };
+    let mut x = 0u8;
+    while x < 64 {
+        if useful::marked(marks, words::wide(x)) {
+            let n = found.rows;
+            let told = found.notes;
+            found = note_form(endings, x, ends, starts, names, values, table, n, told);
+        }
+        x += 1;
+    }
+    found
+}
+
+// The notes after more than 16 tags of every marked nonterminal: a string of the start, nonterminal 0, is no page then.
+fn noted_deep(marks: u64, notes: Notes) -> Notes
+    ensures { λ r. ⌜ (r .invalid ≡ (notes .invalid || bit marks 0)) × (r .deep ≡ true) × (r .crowded ≡ notes .crowded) ⌝ }
+{
+    Notes {
+        invalid: notes.invalid | useful::marked(marks, 0),
+        deep: true,
+        crowded: notes.crowded,
+    }
+}
+
+// One pair of choices under rules of every marked nonterminal: joined once for all of them.
 pub fn one_turn(
     schema: &[u8],
     endings: &[u8],
@@ -212,7 +261,7 @@ pub fn one_turn(
     j: usize,
     right: Slot,
     k: usize,
-    x: u8,
+    marks: u64,
     table: &mut [u64],
     m: usize,
     notes: Notes,
@@ -223,7 +272,7 @@ pub fn one_turn(
     requires { ⌜ 5120 ≤ length (now table) ⌝ }
     requires { ⌜ m ≤ 256 ⌝ }
     ensures { λ r. ⌜ Turned states (now (schema .entry)) (now (endings .entry)) empty (now (table .entry))
-        left j right k x m notes r (now (table .exit)) ⌝ }
+        left j right k marks m notes r (now (table .exit)) ⌝ }
 {
     let mut tags = [0u8; 16];
     let mut relations = [0u64; 17];
@@ -252,15 +301,13 @@ pub fn one_turn(
         d + u,
     );
     match t {
-        stack::Step::Kept(e, s) => note_form(endings, x, e, s, &names, &values, table, m, notes),
+        stack::Step::Kept(e, s) => {
+            let f = note_forms(endings, marks, e, s, &names, &values, table, m, notes);
+            let n = f.rows;
+            let told = f.notes;
+            Turn::Kept(n, told)
+        }
         stack::Step::Mismatch(_, _) => Turn::Mismatch,
-        stack::Step::TooDeep => Turn::Kept(
-            m,
-            Notes {
-                invalid: notes.invalid | (x == 0),
-                deep: true,
-                crowded: notes.crowded,
-            },
-        ),
+        stack::Step::TooDeep => Turn::Kept(m, noted_deep(marks, notes)),
     }
 }

@@ -18,7 +18,7 @@ use Rattle.useful.proofs.SlotLaws.{Marked, Slot, slot-unused}
 
 -- ---- the bits of one mark more
 
-mark-bit : (marks x k : ℕ) → bit (withMark marks x) k ≡ (bit marks k || eqb k x)
+pub mark-bit : (marks x k : ℕ) → bit (withMark marks x) k ≡ (bit marks k || eqb k x)
 unfolding withMark
 mark-bit marks x k = rw (bit-or marks (2 ^ x) k, bit-pow x k)
 

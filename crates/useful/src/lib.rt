@@ -20,7 +20,7 @@ pub fn marked(marks: u64, x: usize) -> bool
 }
 
 // The marks with one more.
-fn mark(marks: u64, x: usize) -> u64
+pub fn mark(marks: u64, x: usize) -> u64
     requires { ⌜ x < 64 ⌝ }
     ensures { λ r. ⌜ r ≡ withMark marks x ⌝ }
 {

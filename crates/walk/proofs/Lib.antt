@@ -1,8 +1,9 @@
 pub mod SlotLaws
-pub mod PairingLaws
 pub mod ValidLaws
 pub mod ProgressLaws
 pub mod OutcomeLaws
+pub mod ShareLaws
+pub mod PairingLaws
 pub mod VisitLaws
 pub mod JoinedLaws
 pub mod RoundLaws

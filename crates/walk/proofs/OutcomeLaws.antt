@@ -5,13 +5,14 @@ use mathlib.Core.Path.{_≡_, refl, sym, _∙_}
 use mathlib.Core.Bool.{Bool, true, false, _||_, false≢true}
 use mathlib.Core.List.{List, [], _∷_, _++_, Memᴰ·cast}
 use mathlib.Core.Logic.{_⊎_, inl, inr, ⊎-elim}
-use Prim.Native.Nat.{ℕ, _+_, _*_, _≤_, _<_}
+use Prim.Native.Nat.{ℕ, suc, _+_, _*_, _≤_, _<_}
 use native.Mathlib.Omega.{arith}
 use lib.Dec.{eqb}
 use lib.ListN.{length, drop}
 use borrow.Author.Tests.{eqb-true, eqb-false}
 use Rattle.words.specs.Reduced.{Stack, tags}
 use Rattle.words.specs.Reader.{Outcome, reduced, differ}
+use Rattle.hedge.specs.Relation.{bit}
 use Rattle.hedge.proofs.TestLaws.{or-out}
 use Rattle.trees.specs.Events.{Pair}
 use Rattle.rows.specs.Tables.{rowsOf, tableOf, among}
@@ -21,13 +22,14 @@ use Rattle.rows.proofs.TableLaws.{row-member, member-row, add-before, add-last,
 use Rattle.rows.proofs.RowLaws.{row-length, pair-row}
 use Rattle.turns.specs.Slots.{rowAt, Tabled}
 use Rattle.walk.specs.Walks.{ValidForm, Proper, Tidy, Noted}
-use Rattle.turns.specs.Turns.{invalidForm, afterForm, FormNoted, OutcomeNoted}
-use Rattle.turns.specs.Turns.{stands, finds-no-room, goes-behind, mismatches, is-deep, is-form}
+use Rattle.turns.specs.Turns.{invalidForm, afterForm, FormNoted, was-crowded, stands, finds-no-room, goes-behind}
+use Rattle.turns.specs.Turns.{FormsNoted, forms-none, forms-other, forms-more, OutcomeNoted, mismatches, is-deep, is-form}
 use Rattle.turns.specs.declared.Notes.{Notes}
+use Rattle.turns.specs.declared.Tally.{Tally}
 use Rattle.turns.specs.declared.Turn.{Turn}
 use Rattle.turns.specs.declared.Turn.the-variants.{Kept, Mismatch}
 use Rattle.walk.proofs.ValidLaws.{or-false-left, or-false-right, invalid-form, valid-start-form, deep-invalid}
-use Rattle.walk.proofs.ProgressLaws.{below-next, Later, tabled-later, noted-later, Sofar}
+use Rattle.walk.proofs.ProgressLaws.{below-next, Later, tabled-later, noted-later, Sofar, sofar-seen}
 
 -- a row stands among the others exactly where its pair does
 module _ (row : List ℕ) (x : ℕ) (s : Stack ℕ) (c : ℕ) (packs : RowOf row x s c) (t : List ℕ) (m : ℕ) where
@@ -47,10 +49,9 @@ module _ (states : ℕ) (rules schema endings : List ℕ) (R Seen : ℕ → Outc
   abbrev pub Also : ℕ → Outcome ℕ → ℕ → Outcome ℕ → Type 0
   Also x o y q = Seen y q ⊎ ((y ≡ x) × (q ≡ o))
 
-  -- what holds after a turn: the walk goes on, or it stops at an outcome of R
-  abbrev pub Next : ℕ → Outcome ℕ → Turn → List ℕ → Type 0
-  Next x o (Kept m notes) t = Sofar states rules schema endings R (Also x o) t₀ n t m notes
-  Next x o Mismatch t = (length t ≡ length t₀) × (drop 5120 t ≡ drop 5120 t₀) × ((a b : ℕ) × R x (differ a b))
+  -- what holds after a form of x is noted
+  abbrev pub AfterForm : ℕ → Outcome ℕ → Tally → List ℕ → Type 0
+  AfterForm x o r t = Sofar states rules schema endings R (Also x o) t₀ n t (r .rows) (r .notes)
 
   module _ (t : List ℕ) (m : ℕ) (notes : Notes) (sofar : Sofar states rules schema endings R Seen t₀ n t m notes)
       (x : ℕ) (o : Outcome ℕ) (is-result : R x o) where
@@ -61,38 +62,6 @@ module _ (states : ℕ) (rules schema endings : List ℕ) (R Seen : ℕ → Outc
     seen-next notes′ t′ m′ l w y q (inl v) =
         noted-later states rules schema endings notes notes′ t t′ m m′ y q l (sofar .seen y q v)
     seen-next notes′ t′ m′ l w y q (inr (e, f)) = rw (e, f) w
-
-    -- more than 16 tags
-    deep-next : (s : Stack ℕ) (c : ℕ) → o ≡ reduced s c → 16 < tags s
-        → Next x o (Kept m (record { invalid = notes .invalid || eqb x 0; deep = true; crowded = notes .crowded })) t
-    deep-next s c e l =
-        let notes′ : Notes = record { invalid = notes .invalid || eqb x 0; deep = true; crowded = notes .crowded } in
-        record {
-          grown = sofar .grown;
-          happened = record {
-            invalid-page = λ f.
-                ⊎-elim (sofar .happened .invalid-page)
-                (λ z. (s, c, rw (eqb-true x 0 z, e) at is-result, deep-invalid states rules schema endings s c l))
-                (or-out (notes .invalid) f);
-            too-deep = λ f. (x, s, c, rw e at is-result, l);
-            past-room = sofar .happened .past-room;
-          };
-          seen = seen-next notes′ t m
-              (record {
-                invalid-stays = or-false-left (notes .invalid) (eqb x 0);
-                deep-stays = λ f. refl;
-                crowded-stays = λ f. f;
-                rows-stay = λ p w. w;
-              })
-              (record {
-                form = s;
-                last = c;
-                reduces = e;
-                deep-noted = λ h. refl;
-                stands = λ h. absurd (omega arith);
-                valid = λ z f. absurd (eqb-false x 0 (or-false-right (notes .invalid) (eqb x 0) f) z);
-              });
-        }
 
     -- a form of at most 16 tags
     module _ (s : Stack ℕ) (c : ℕ) (e : o ≡ reduced s c) (l : tags s ≤ 16)
@@ -140,7 +109,7 @@ module _ (states : ℕ) (rules schema endings : List ℕ) (R Seen : ℕ → Outc
           → (crowded ≡ true
           → (m ≡ 256) × ((y : ℕ) × (u : Stack ℕ) × (d : ℕ) × R y (reduced u d) × (tags u ≤ 16)
           × (Tabled t m (record { of = y; form = u; last = d }) → ⊥)))
-          → Next x o (Kept m (afterForm endings x s c notes crowded)) t
+          → AfterForm x o (record { rows = m; notes = afterForm endings x s c notes crowded }) t
       kept-next crowded f w past =
           record {
             grown = sofar .grown;
@@ -181,7 +150,7 @@ module _ (states : ℕ) (rules schema endings : List ℕ) (R Seen : ℕ → Outc
                   (λ b′. b ∙ sym b′) (below-next k m g′)) (below-next j m g);
             }
 
-        added-next : Next x o (Kept (m + 1) (afterForm endings x s c notes (notes .crowded))) t′
+        added-next : AfterForm x o (record { rows = m + 1; notes = afterForm endings x s c notes (notes .crowded) }) t′
         added-next =
             record {
               grown = record {
@@ -204,7 +173,9 @@ module _ (states : ℕ) (rules schema endings : List ℕ) (R Seen : ℕ → Outc
                   (form-noted (notes .crowded) t′ (m + 1) (λ f. (m, omega arith, rw at-last packs)));
             }
 
-      form-next : (r : Turn) (t′ : List ℕ) → FormNoted endings x s c t m notes r t′ → Next x o r t′
+      pub form-next : (r : Tally) (t′ : List ℕ) → FormNoted endings x s c t m notes r t′ → AfterForm x o r t′
+      form-next r t′ (was-crowded w) =
+          kept-next true (λ f. absurd (false≢true (sym f))) (λ f. absurd (false≢true (sym f))) (λ f. sofar .happened .past-room w)
       form-next r t′ (stands row packs w) =
           kept-next (notes .crowded) (λ f. f) (λ f. among-tabled row x s c packs t m w) (sofar .happened .past-room)
       form-next r t′ (finds-no-room row packs w h) =
@@ -212,10 +183,96 @@ module _ (states : ℕ) (rules schema endings : List ℕ) (R Seen : ℕ → Outc
           (λ f. (omega (arith, sofar .grown .tidy .few), (x, s, c, form-result, l, not-among-tabled row x s c packs t m w)))
       form-next r t′ (goes-behind row t″ packs w h q) = added-next row t″ packs w h q
 
-    pub outcome-next : ((s : Stack ℕ) (c : ℕ) → o ≡ reduced s c
+-- ---- the outcome of every marked nonterminal
+
+module _ (states : ℕ) (rules schema endings : List ℕ) (R Seen : ℕ → Outcome ℕ → Type 0) (t₀ : List ℕ) (n : ℕ) (marks : ℕ)
+    (o : Outcome ℕ) where
+  -- the outcomes seen, and that of the marked nonterminals below k
+  abbrev pub AlsoAll : ℕ → ℕ → Outcome ℕ → Type 0
+  AlsoAll k y q = Seen y q ⊎ ((y < k) × (bit marks y ≡ true) × (q ≡ o))
+
+  -- what holds after a turn: the walk goes on, or it stops at an outcome of R
+  abbrev pub Next : Turn → List ℕ → Type 0
+  Next (Kept m notes) t = Sofar states rules schema endings R (AlsoAll 64) t₀ n t m notes
+  Next Mismatch t = (length t ≡ length t₀) × (drop 5120 t ≡ drop 5120 t₀) × ((x a b : ℕ) × R x (differ a b))
+
+  module _ (t : List ℕ) (m : ℕ) (notes : Notes) (sofar : Sofar states rules schema endings R Seen t₀ n t m notes)
+      (is-result : (x : ℕ) → x < 64 → bit marks x ≡ true → R x o) (some : (x : ℕ) × (x < 64) × (bit marks x ≡ true)) where
+    -- more than 16 tags
+    deep-next : (s : Stack ℕ) (c : ℕ) → o ≡ reduced s c → 16 < tags s
+        → Next (Kept m (record { invalid = notes .invalid || bit marks 0; deep = true; crowded = notes .crowded })) t
+    deep-next s c e l =
+        record {
+          grown = sofar .grown;
+          happened = record {
+            invalid-page = λ f.
+                ⊎-elim (sofar .happened .invalid-page)
+                (λ z. (s, c, rw e at (is-result 0 (omega arith) z), deep-invalid states rules schema endings s c l))
+                (or-out (notes .invalid) f);
+            too-deep = λ f. let (x, h, b) = some in (x, s, c, rw e at (is-result x h b), l);
+            past-room = sofar .happened .past-room;
+          };
+          seen = noted;
+        }
+      where
+        notes′ : Notes
+        notes′ = record { invalid = notes .invalid || bit marks 0; deep = true; crowded = notes .crowded }
+
+        noted : (y : ℕ) (q : Outcome ℕ) → AlsoAll 64 y q → Noted states rules schema endings notes′ t m y q
+        noted y q (inl v) =
+            noted-later states rules schema endings notes notes′ t t m m y q
+            (record {
+              invalid-stays = or-false-left (notes .invalid) (bit marks 0);
+              deep-stays = λ f. refl;
+              crowded-stays = λ f. f;
+              rows-stay = λ p w. w;
+            })
+            (sofar .seen y q v)
+        noted y q (inr (h, b, d)) =
+            record {
+              form = s;
+              last = c;
+              reduces = d ∙ e;
+              deep-noted = λ h. refl;
+              stands = λ h. absurd (omega arith);
+              valid = λ z f.
+                  absurd (false≢true (sym (or-false-right (notes .invalid) (bit marks 0) f) ∙ (rw z at b)));
+            }
+
+    -- a form of at most 16 tags
+    module _ (s : Stack ℕ) (c : ℕ) (e : o ≡ reduced s c) (l : tags s ≤ 16)
+        (proper : (x : ℕ) → x < 64 → bit marks x ≡ true → Proper states rules schema endings (record { of = x; form = s; last = c })) where
+      forms-next : (k : ℕ) (r : Tally) (t′ : List ℕ) → k ≤ 64 → FormsNoted endings marks s c t m notes k r t′
+          → Sofar states rules schema endings R (AlsoAll k) t₀ n t′ (r .rows) (r .notes)
+      forms-next k r t′ h forms-none =
+          sofar-seen states rules schema endings R Seen (AlsoAll 0) t₀ n t m notes sofar
+          (λ y q v. ⊎-elim (sofar .seen y q) (λ (g, _, _). absurd (omega (arith, g))) v)
+      forms-next k r t′ h (forms-other {x = x} w b) =
+          let so = forms-next x r t′ (omega arith) w in
+          sofar-seen states rules schema endings R (AlsoAll x) (AlsoAll (suc x)) t₀ n t′ (r .rows) (r .notes) so
+          (λ y q v. so .seen y q (⊎-elim (λ a. inl a) (λ (g, d, f). before y q g d f) v))
+        where
+          before : (y : ℕ) (q : Outcome ℕ) → y < suc x → bit marks y ≡ true → q ≡ o → AlsoAll x y q
+          before y q g d f =
+              ⊎-elim (λ a. inr (a, d, f)) (λ a. absurd (false≢true (sym b ∙ (rw a at d)))) (below-next y x (omega arith))
+      forms-next k r t″ h (forms-more {x = x} {r = r′} {t′ = t′} w b form) =
+          let so = forms-next x r′ t′ (omega arith) w in
+          let after =
+          form-next states rules schema endings R (AlsoAll x) t₀ n t′ (r′ .rows) (r′ .notes) so x o (is-result x (omega arith) b) s c e l
+          (proper x (omega arith) b) r t″ form in
+          sofar-seen states rules schema endings R (Also states rules schema endings R (AlsoAll x) t₀ n x o) (AlsoAll (suc x)) t₀ n t″
+          (r .rows) (r .notes) after
+          (λ y q v. after .seen y q (⊎-elim (λ a. inl (inl a)) (λ (g, d, f). before y q g d f) v))
+        where
+          before : (y : ℕ) (q : Outcome ℕ) → y < suc x → bit marks y ≡ true → q ≡ o
+              → Also states rules schema endings R (AlsoAll x) t₀ n x o y q
+          before y q g d f = ⊎-elim (λ a. inl (inr (a, d, f))) (λ a. inr (a, f)) (below-next y x (omega arith))
+
+    pub outcome-next : ((s : Stack ℕ) (c : ℕ) → o ≡ reduced s c → (x : ℕ) → x < 64 → bit marks x ≡ true
         → Proper states rules schema endings (record { of = x; form = s; last = c }))
-        → (r : Turn) (t′ : List ℕ) → OutcomeNoted endings x o t m notes r t′ → Next x o r t′
+        → (r : Turn) (t′ : List ℕ) → OutcomeNoted endings marks o t m notes r t′ → Next r t′
     outcome-next proper r t′ (mismatches a b e) =
-        (sofar .grown .same-length, sofar .grown .same-rest, (a, b, rw e at is-result))
+        let (x, h, w) = some in
+        (sofar .grown .same-length, sofar .grown .same-rest, (x, a, b, rw e at (is-result x h w)))
     outcome-next proper r t′ (is-deep s c e l) = deep-next s c e l
-    outcome-next proper r t′ (is-form s c r″ t″ e l w) = form-next s c e l (proper s c e) r″ t″ w
+    outcome-next proper r t′ (is-form s c r″ t″ e l w) = forms-next s c e l (proper s c e) 64 r″ t″ (omega arith) w

@@ -1,16 +1,18 @@
--- What the rules make of the rows below n (specs/Walks.antt), as the walk meets it: a rule of a useful nonterminal, a choice of its left
--- slot and one of its right, joined. The forms at the two places of a right side are the choices of its slots, and rows of proper pairs
+-- What the rules make of the rows below n (specs/Walks.antt), as the walk meets it: the first rule with the right side of a useful
+-- nonterminal's rule, a choice of its left slot and one of its right, joined. The forms at the two places of a right side are the choices of its slots, and rows of proper pairs
 -- have good forms, so that the results are the joins of pairs of forms (trees' PairLaws). Assumes nothing.
 use mathlib.Core.Path.{_≡_, refl, sym, _∙_}
-use mathlib.Core.Bool.{Bool}
+use mathlib.Core.Bool.{Bool, true}
 use mathlib.Core.List.{List}
 use Prim.Native.Nat.{ℕ, _+_, _/_, _≤_, _<_}
 use lib.ListN.{length}
+use native.Mathlib.Omega.{arith}
 use Rattle.words.specs.Binoid.{Laws}
 use Rattle.words.specs.Reduced.{Stack}
 use Rattle.words.specs.Reader.{Outcome, reduced, join}
 use Rattle.words.proofs.JoinLaws.{join-good}
-use Rattle.hedge.specs.Schema.{field, RulesBelow, EndsBelow}
+use Rattle.hedge.specs.Schema.{RulesBelow, EndsBelow}
+use Rattle.hedge.specs.Relation.{bit}
 use Rattle.hedge.specs.Operations.{relations, unit}
 use Rattle.hedge.proofs.NumberLaws.{relations-laws}
 use Rattle.template.specs.Grammar.{Symbol, Gives, rightSide}
@@ -18,10 +20,13 @@ use Rattle.template.proofs.GrammarLaws.{right-length}
 use Rattle.stack.proofs.HeldLaws.{ends-first-held}
 use Rattle.trees.specs.Trees.{Useful}
 use Rattle.trees.specs.Events.{Pair}
+use Rattle.useful.specs.Marks.{Ruled, MarksAll}
 use Rattle.trees.proofs.PairLaws.{GoodForm, form-good, result-pair}
 use Rattle.rows.proofs.RowLaws.{row-pair}
 use Rattle.turns.specs.Slots.{rowAt, PairRow, Tabled, leftSlot, rightSlot, Choice, choices, newFrom}
+use Rattle.walk.specs.Shares.{FirstSame, SharesRight, Sharing}
 use Rattle.walk.specs.Walks.{ResultOver, Proper}
+use Rattle.walk.proofs.ShareLaws.{share-first, same-slots}
 use Rattle.walk.proofs.SlotLaws.{left-forms, right-forms, choice-unique, choice-old}
 
 module _ (states : ℕ) (rules schema endings : List ℕ) where
@@ -29,10 +34,12 @@ module _ (states : ℕ) (rules schema endings : List ℕ) where
   abbrev pub AllProper : List ℕ → ℕ → Type 0
   AllProper t n = (k : ℕ) → k < n → (p : Pair ℕ) × PairRow (rowAt t k) p × Proper states rules schema endings p
 
-  -- rule i of the useful nonterminal x, left choice j and right choice k, joined to the outcome o
+  -- a rule of the useful nonterminal x, whose right side is rule i's and no earlier one's: left choice j and right choice k of it, joined to
+  -- the outcome o
   pub record Pairing (t : List ℕ) (n i j k x : ℕ) (o : Outcome ℕ) : Type 0 where
     pub is-rule : i < length rules / 4
-    pub of : field rules i 0 ≡ x
+    pub is-first : FirstSame rules i
+    pub shares : SharesRight rules i x
     pub useful : Useful (Gives rules) x
     pub is-left : j < choices (leftSlot rules i) n
     pub is-right : k < choices (rightSlot rules i) n
@@ -77,14 +84,17 @@ module _ (states : ℕ) (rules schema endings : List ℕ) where
       result-pairing x o r =
           let (u, ss, (i, l, e, q), s, c, s′, c′, f, f′, z) =
           result-pair laws (Tabled t n) tabled-good (Gives rules) short x o .0 r in
-          let (j, a, g) = left-forms states schema endings t n s c rules i .0 (rw q f) in
-          let (k, a′, g′) = right-forms states schema endings t n s′ c′ rules i .0 (rw q f′) in (
-            i,
+          let (b, h, same, is-first) = share-first rules i in
+          let side : rightSide rules b ≡ ss = sym (same-slots rules i b same .2) ∙ q in
+          let (j, a, g) = left-forms states schema endings t n s c rules b .0 (rw side f) in
+          let (k, a′, g′) = right-forms states schema endings t n s′ c′ rules b .0 (rw side f′) in (
+            b,
             j,
             k,
             record {
-              is-rule = l;
-              of = e;
+              is-rule = omega arith;
+              is-first = is-first;
+              shares = (i, l, e, same);
               useful = u;
               is-left = a;
               is-right = a′;
@@ -100,10 +110,11 @@ module _ (states : ℕ) (rules schema endings : List ℕ) where
 
       pub pairing-result : (i j k x : ℕ) (o : Outcome ℕ) → Pairing t n i j k x o → ResultOver states rules schema endings t n x o
       pairing-result i j k x o p =
+          let (h, is-rule, of, same) = p .shares in
           result-pair laws (Tabled t n) tabled-good (Gives rules) short x o .1 (
             p .useful,
             rightSide rules i,
-            (i, p .is-rule, p .of, refl),
+            (h, is-rule, of, same-slots rules h i same .2),
             p .form,
             p .last,
             p .form′,
@@ -127,13 +138,20 @@ module _ (states : ℕ) (rules schema endings : List ℕ) where
           record { useful = p .useful; good-form = u; good-last = v }
 
   -- choices decide the outcome
-  pub pairing-unique : (t : List ℕ) (n i j k x y : ℕ) (o q : Outcome ℕ) → Pairing t n i j k x o → Pairing t n i j k y q
-      → (x ≡ y) × (o ≡ q)
+  pub pairing-unique : (t : List ℕ) (n i j k x y : ℕ) (o q : Outcome ℕ) → Pairing t n i j k x o → Pairing t n i j k y q → o ≡ q
   pairing-unique t n i j k x y o q p r =
       let (e, f) = choice-unique (unit 8 states) t n (leftSlot rules i) j (p .form) (r .form) (p .last) (r .last) (p .left) (r .left) in
       let (g, h) =
       choice-unique (unit 8 states) t n (rightSlot rules i) k (p .form′) (r .form′) (p .last′) (r .last′) (p .right) (r .right) in
-      (sym (p .of) ∙ r .of, sym (p .joins) ∙ rw (e, f, g, h) (r .joins))
+      sym (p .joins) ∙ rw (e, f, g, h) (r .joins)
+
+  -- its nonterminal is one of those that are marked for the rule
+  pub pairing-marked : (t : List ℕ) (n i j k x : ℕ) (o : Outcome ℕ) (useful marks : ℕ) → MarksAll useful (Useful (Gives rules))
+      → Ruled rules → Sharing rules useful i marks → Pairing t n i j k x o → (x < 64) × (bit marks x ≡ true)
+  pairing-marked t n i j k x o useful marks are-useful ruled sharing p =
+      let (h, is-rule, of, same) = p .shares in
+      let small : x < 64 = rw (← of) (ruled .left-below h is-rule) in
+      (small, sharing .shared x small .1 (are-useful x small .1 (p .useful), p .is-first, p .shares))
 
   -- a pairing of two old choices was one before
   pub pairing-old : (t : List ℕ) (prev n : ℕ) (first : Bool) (i j k x : ℕ) (o : Outcome ℕ) → Pairing t n i j k x o
@@ -143,7 +161,8 @@ module _ (states : ℕ) (rules schema endings : List ℕ) where
       let (a′, g′) = choice-old (unit 8 states) t prev n first (rightSlot rules i) k (p .form′) (p .last′) l′ (p .right) in
       record {
         is-rule = p .is-rule;
-        of = p .of;
+        is-first = p .is-first;
+        shares = p .shares;
         useful = p .useful;
         is-left = a;
         is-right = a′;

@@ -1,22 +1,23 @@
 -- The laws of the walk (VisitLaws.antt, JoinedLaws.antt) in the words of `walk_round`: what is lent is collected in one record, what is
 -- known at a rule in another, and each stage of the loops leads from one place of the walk to the next. Numbers and slots that the code
 -- computes are variables, with equations in the records. Assumes nothing.
-use mathlib.Core.Path.{_≡_, refl, sym}
+use mathlib.Core.Path.{_≡_, refl}
 use mathlib.Core.Bool.{Bool, true, false}
 use mathlib.Core.List.{List}
 use Prim.Native.Nat.{ℕ, _+_, _/_, _≤_, _<_}
 use native.Mathlib.Omega.{arith}
 use lib.Dec.{ltb}
 use lib.ListN.{length}
-use Rattle.hedge.specs.Schema.{field, RulesBelow, EndsBelow}
-use Rattle.hedge.specs.Relation.{bit}
+use borrow.Author.Tests.{ltb-true, lt-ltb, le-ltb}
+use Rattle.hedge.specs.Schema.{RulesBelow, EndsBelow}
 use Rattle.template.specs.Grammar.{Gives}
 use Rattle.stack.specs.Steps.{Schooled}
 use Rattle.trees.specs.Trees.{Useful}
 use Rattle.useful.specs.Marks.{Ruled, MarksAll}
 use Rattle.turns.specs.Slots.{leftSlot, rightSlot, choices, newFrom}
+use Rattle.walk.specs.Shares.{Sharing}
 use Rattle.walk.specs.Walks.{Tidy, Ready, Walked}
-use Rattle.turns.specs.Turns.{slotFits, leftsOf, rightFrom, Choosable, Turned}
+use Rattle.turns.specs.Turns.{slotFits, leftsOf, leftFrom, rightFrom, Choosable, Turned}
 use Rattle.turns.specs.declared.Slot.{Slot}
 use Rattle.turns.specs.declared.Slot.the-variants.{Absent, Single, Rows}
 use Rattle.turns.specs.declared.Notes.{Notes}
@@ -24,7 +25,7 @@ use Rattle.turns.specs.declared.Turn.{Turn}
 use Rattle.turns.specs.declared.Turn.the-variants.{Kept, Mismatch}
 use Rattle.walk.specs.declared.Walk.the-variants.{Stopped, Went}
 use Rattle.walk.proofs.ProgressLaws.{no-notes}
-use Rattle.walk.proofs.VisitLaws.{Going, going-start, right-start, right-end, left-end, walk-end}
+use Rattle.walk.proofs.VisitLaws.{Going, going-start, left-start, right-start, right-end, left-end, walk-end}
 use Rattle.walk.proofs.JoinedLaws.{AfterTurn, joined-next}
 
 -- what the walk is lent
@@ -33,27 +34,32 @@ pub record LentParts (states : ℕ) (rules schema endings : List ℕ) (empty use
   pub rules-below : RulesBelow states schema
   pub ends-below : EndsBelow states endings
   pub ruled : Ruled rules
-  pub marks : MarksAll useful (Useful (Gives rules))
+  pub useful-marks : MarksAll useful (Useful (Gives rules))
 
 -- what the walk knows at rule i
-pub record AtRule (rules : List ℕ) (useful prev n : ℕ) (first : Bool) (i x : ℕ) (left right : Slot) (lefts rights newLeft newRight : ℕ)
+pub record AtRule (rules : List ℕ) (useful prev n : ℕ) (first : Bool) (i marks : ℕ) (left right : Slot) (lefts rights newLeft newRight : ℕ)
     : Type 0 where
   pub is-rule : i < length rules / 4
-  pub of : x ≡ field rules i 0
+  pub sharing : Sharing rules useful i marks
   pub left-is : left ≡ leftSlot rules i
   pub right-is : right ≡ rightSlot rules i
-  pub lefts-is : lefts ≡ leftsOf (bit useful x) (choices left n)
+  pub lefts-is : lefts ≡ leftsOf (ltb 0 marks) (choices left n)
   pub rights-is : rights ≡ choices right n
   pub new-left : newLeft ≡ newFrom left prev first
   pub new-right : newRight ≡ newFrom right prev first
 
-pub rule-small : (rules : List ℕ) (i x : ℕ) → Ruled rules → i < length rules / 4 → x ≡ field rules i 0 → x < 64
-rule-small rules i x ruled l e = rw e (ruled .left-below i l)
-
--- a left choice below the number of those that are walked is one, and the left side is useful
-pub lefts-below : (useful : Bool) (j lefts all : ℕ) → lefts ≡ leftsOf useful all → j < lefts → (useful ≡ true) × (j < all)
+-- a left choice below the number of those that are walked is one, and some nonterminal is marked for the rule
+pub lefts-below : (walked : Bool) (j lefts all : ℕ) → lefts ≡ leftsOf walked all → j < lefts → (walked ≡ true) × (j < all)
 lefts-below true j lefts all e l = (refl, rw e at l)
 lefts-below false j lefts all e l = absurd (omega arith)
+
+-- where some right choice is new every left choice is walked, else the new ones
+module _ (newLeft newRight rights : ℕ) where
+  pub left-all : newRight < rights → 0 ≡ leftFrom (ltb newRight rights) newLeft
+  left-all l = rw (lt-ltb newRight rights l)
+
+  pub left-new : rights ≤ newRight → newLeft ≡ leftFrom (ltb newRight rights) newLeft
+  left-new l = rw (le-ltb newRight rights l)
 
 module _ {states : ℕ} {rules schema endings : List ℕ} where
   pub choosable : (t : List ℕ) (n m : ℕ) → Tidy states rules schema endings t m → n ≤ m → (slot : Slot) (k : ℕ) → k < choices slot n
@@ -79,18 +85,23 @@ module _ {states : ℕ} {rules schema endings : List ℕ} where
         walk-end states rules schema endings t₀ prev n first i 0 0 t m notes going (lent .schooled .few) (lent .rules-below)
         (lent .ends-below) h
 
-    module _ {i x : ℕ} {left right : Slot} {lefts rights newLeft newRight : ℕ}
-        (rule : AtRule rules useful prev n first i x left right lefts rights newLeft newRight) where
-      small : x < 64
-      small = rule-small rules i x (lent .ruled) (rule .is-rule) (rule .of)
-
+    module _ {i marks : ℕ} {left right : Slot} {lefts rights newLeft newRight : ℕ}
+        (rule : AtRule rules useful prev n first i marks left right lefts rights newLeft newRight) where
       module _ {t₀ : List ℕ} {j k : ℕ} {t : List ℕ} {m : ℕ} {notes : Notes}
           (going : Going states rules schema endings t₀ prev n first i j k t m notes) where
         -- after the last left choice
         pub stage-rule : k ≡ 0 → lefts ≤ j → Going states rules schema endings t₀ prev n first (i + 1) 0 0 t m notes
         stage-rule z h =
-            left-end states rules schema endings t₀ prev n first i j k t m notes going useful lefts x (lent .marks) small (sym (rule .of))
-            (rw (← (rule .left-is)) (rule .lefts-is)) h z
+            left-end states rules schema endings t₀ prev n first i j k t m notes going useful lefts marks (lent .useful-marks)
+            (lent .ruled) (rule .sharing) (rw (← (rule .left-is)) (rule .lefts-is)) h z
+
+        -- the first left choice
+        pub stage-start : j ≡ 0 → k ≡ 0 → (j′ : ℕ) → j′ ≡ leftFrom (ltb newRight rights) newLeft
+            → Going states rules schema endings t₀ prev n first i j′ 0 t m notes
+        stage-start y z j′ e =
+            left-start states rules schema endings t₀ prev n first i j k t m notes going j′ newLeft newRight rights y z
+            (rw (← (rule .left-is)) (rule .new-left)) (rw (← (rule .right-is)) (rule .new-right))
+            (rw (← (rule .right-is)) (rule .rights-is)) e (lent .schooled .few) (lent .rules-below) (lent .ends-below)
 
         -- the first right choice
         pub stage-right : k ≡ 0 → (k′ : ℕ) → k′ ≡ rightFrom (slotFits left j t) (ltb j newLeft) newRight rights
@@ -111,7 +122,7 @@ module _ {states : ℕ} {rules schema endings : List ℕ} where
         pub left-choosable : j < lefts → Choosable t left j
         left-choosable l =
             choosable t n m (going .sofar .grown .tidy) (going .sofar .grown .more) left j
-            (lefts-below (bit useful x) j lefts (choices left n) (rule .lefts-is) l .1)
+            (lefts-below (ltb 0 marks) j lefts (choices left n) (rule .lefts-is) l .1)
 
         pub right-choosable : k < rights → Choosable t right k
         right-choosable l =
@@ -119,13 +130,13 @@ module _ {states : ℕ} {rules schema endings : List ℕ} where
 
         -- one pair more
         module _ (l : j < lefts) (h : k < rights) {r : Turn} {t′ : List ℕ}
-            (turned : Turned states schema endings empty t left j right k x m notes r t′) where
+            (turned : Turned states schema endings empty t left j right k marks m notes r t′) where
           after-turn : AfterTurn states rules schema endings t₀ prev n first i j k t m notes going r t′
           after-turn =
-              let (e, f) = lefts-below (bit useful x) j lefts (choices left n) (rule .lefts-is) l in
+              let (e, f) = lefts-below (ltb 0 marks) j lefts (choices left n) (rule .lefts-is) l in
               joined-next states rules schema endings t₀ prev n first i j k t m notes going (lent .schooled .few) (lent .rules-below)
-              (lent .ends-below) x (rule .is-rule) (sym (rule .of)) (lent .marks x small .0 e) (rw (← (rule .left-is)) f)
-              (rw (← (rule .right-is), ← (rule .rights-is)) h) r t′
+              (lent .ends-below) useful marks (rule .is-rule) (lent .useful-marks) (lent .ruled) (rule .sharing) (ltb-true 0 marks e)
+              (rw (← (rule .left-is)) f) (rw (← (rule .right-is), ← (rule .rights-is)) h) r t′
               (rw (lent .schooled .empty-word, rule .left-is, rule .right-is) at turned)
 
           pub stage-kept : {m′ : ℕ} {notes′ : Notes} → r ≡ Kept m′ notes′

@@ -1,7 +1,9 @@
 // One round's walk over rules and pairs of images. The images before the round are the rows below n of the lent table, those below prev
 // were there two rounds ago; what the walk finds goes behind the n rows, so that no image of the same round is used. A pair of images of
-// which both were there two rounds ago was joined then, and is passed over.
+// which both were there two rounds ago was joined then, and is passed over; rules with the same right side are walked once, under the first.
 ghost use mathlib.Core.Path.{_≡_};
+ghost use mathlib.Core.Bool.{true, cond};
+ghost use mathlib.Core.Logic.{_↔_};
 ghost use Prim.Native.Nat.{_+_, _*_, _/_, _<_};
 ghost use lib.Dec.{ltb};
 ghost use lib.ListN.{length};
@@ -10,9 +12,10 @@ ghost use Rattle.hedge.specs.Relation.{bit};
 ghost use Rattle.template.specs.Grammar.{Gives};
 ghost use Rattle.trees.specs.Trees.{Useful};
 ghost use Rattle.stack.specs.Steps.{Schooled};
-ghost use Rattle.useful.specs.Marks.{Ruled, MarksAll};
+ghost use Rattle.useful.specs.Marks.{withMark, Ruled, MarksAll};
 ghost use Rattle.turns.specs.Slots.{leftSlot, rightSlot, choices, newFrom};
-ghost use Rattle.turns.specs.Turns.{slotFits, leftsOf, rightFrom, Choosable};
+ghost use Rattle.turns.specs.Turns.{slotFits, leftsOf, leftFrom, rightFrom, Choosable};
+ghost use Rattle.walk.specs.Shares.{SameRight, Sharing};
 ghost use Rattle.walk.specs.Walks.{Tidy, Ready, Walked};
 
 // Stopped at the first mismatch, or went through, with so many rows and these notes.
@@ -78,6 +81,16 @@ fn fits(s: turns::Slot, k: usize, table: &[u64]) -> bool
     }
 }
 
+// The first left choice to walk: where no right choice is new, only the new ones.
+fn left_from(new_left: usize, new_right: usize, rights: usize) -> usize
+    ensures { λ r. ⌜ r ≡ leftFrom (ltb «new_right» rights) «new_left» ⌝ }
+{
+    if new_right < rights {
+        return 0;
+    }
+    new_left
+}
+
 // The first right choice to join with left choice j: all where j is new, only the new ones where it is not, none where j does not fit.
 fn right_from(
     left: turns::Slot,
@@ -99,12 +112,52 @@ fn right_from(
     rights
 }
 
-// How many left choices a rule of x has in the walk: none where x is not useful.
-fn lefts_of(useful: u64, x: u8, left: turns::Slot, n: usize) -> usize
-    requires { ⌜ x < 64 ⌝ }
-    ensures { λ r. ⌜ r ≡ leftsOf (bit useful x) (choices left n) ⌝ }
+// Have rules h and i the same right side?
+fn same_right(rules: &[u8], h: usize, i: usize) -> bool
+    requires { ⌜ (h < length (now rules) / 4) × (i < length (now rules) / 4) ⌝ }
+    ensures { λ r. ⌜ (r ≡ true) ↔ SameRight (now (rules .entry)) h i ⌝ }
 {
-    if useful::marked(useful, x as usize) {
+    let a = h * 4;
+    let b = i * 4;
+    (rules[a + 1] == rules[b + 1]) & (rules[a + 2] == rules[b + 2]) & (rules[a + 3] == rules[b + 3])
+}
+
+// The marks with x, where it is useful.
+fn with_useful(marks: u64, useful: u64, x: u8) -> u64
+    requires { ⌜ x < 64 ⌝ }
+    ensures { λ r. ⌜ r ≡ cond (bit useful x) (withMark marks x) marks ⌝ }
+{
+    if useful::marked(useful, words::wide(x)) {
+        return useful::mark(marks, words::wide(x));
+    }
+    marks
+}
+
+// The useful nonterminals for which rule i is walked: the left sides of all rules with its right side, where it is the first of them.
+fn sharers(rules: &[u8], useful: u64, i: usize) -> u64
+    requires { ⌜ Ruled (now rules) ⌝ }
+    requires { ⌜ i < length (now rules) / 4 ⌝ }
+    ensures { λ r. ⌜ Sharing (now (rules .entry)) useful i r ⌝ }
+{
+    let mut marks = 0u64;
+    let mut h = 0;
+    while h < rules.len() / 4 {
+        if same_right(rules, h, i) {
+            if h < i {
+                return 0;
+            }
+            marks = with_useful(marks, useful, left_side(rules, h));
+        }
+        h += 1;
+    }
+    marks
+}
+
+// How many left choices a rule has in the walk: none where it is walked for no nonterminal.
+fn lefts_of(marks: u64, left: turns::Slot, n: usize) -> usize
+    ensures { λ r. ⌜ r ≡ leftsOf (ltb 0 marks) (choices left n) ⌝ }
+{
+    if 0 < marks {
         return choices(left, n);
     }
     0
@@ -142,14 +195,14 @@ pub fn walk_round(
     let mut i = 0;
     let event = 'walk: loop {
         while i < rules.len() / 4 {
-            let x = left_side(rules, i);
+            let marks = sharers(rules, useful, i);
             let left = left_slot(rules, i);
             let right = right_slot(rules, i);
-            let lefts = lefts_of(useful, x, left, n);
+            let lefts = lefts_of(marks, left, n);
             let rights = choices(right, n);
             let new_left = new_from(left, prev, first);
             let new_right = new_from(right, prev, first);
-            let mut j = 0;
+            let mut j = left_from(new_left, new_right, rights);
             while j < lefts {
                 let mut k = right_from(left, j, table, new_left, new_right, rights);
                 while k < rights {
@@ -162,7 +215,7 @@ pub fn walk_round(
                         j,
                         right,
                         k,
-                        x,
+                        marks,
                         table,
                         m,
                         notes,

@@ -67,8 +67,8 @@ then-form-requires c κs = (
 enum-known-t : tie.Need-enum-known-t
 enum-known-t c = search one-turn-laws
 
-note-form-requires : tie.Need-note-form-requires
-note-form-requires c κs =
+note-forms-requires : tie.Need-note-forms-requires
+note-forms-requires c κs =
     let told = c .before .before .before .before in
     let q = told .before .before in
     let s = start (q .before) in (
@@ -82,12 +82,15 @@ enum-told-3 c = search one-turn-laws
 enum-told-4 : tie.Need-enum-told-4
 enum-told-4 c = search one-turn-laws
 
+noted-deep-requires : tie.Need-noted-deep-requires
+noted-deep-requires c κs = search one-turn-laws
+
 same-length-3 : tie.Need-same-length-3
 same-length-3 c = search one-turn-laws
 
 returns-3 : tie.Need-returns-3
 returns-3 c =
-    let told = c .before .before .before .before .before .before .before in
+    let told = c .before .before .before .before .before .before .before .before in
     let q = told .before .before in
     let p = q .before in
     search (
@@ -98,7 +101,7 @@ returns-3 c =
       right p .b .given .1,
       q .then-form .ensures,
       told .t .given .1,
-      c .before .before .note-form .ensures,
+      c .before .before .before .note-forms .ensures,
     )
 
 same-length-4 : tie.Need-same-length-4
@@ -133,6 +136,7 @@ returns-5 c =
       right p .b .given .1,
       q .then-form .ensures,
       c .before .enum-told4 .given .1,
+      c .noted-deep .ensures,
     )
 
 pub one-turn-spec : {M : Type 1} → statement M
@@ -152,9 +156,10 @@ one-turn-spec =
     add-then-form
     then-form-requires
     enum-known-t
-    note-form-requires
+    note-forms-requires
     enum-told-3
     enum-told-4
+    noted-deep-requires
     same-length-3
     returns-3
     same-length-4

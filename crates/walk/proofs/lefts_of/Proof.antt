@@ -1,19 +1,16 @@
--- All left choices where the left side is marked, else none (LoadLaws). Assumes nothing.
-use Rattle.turns.proofs.LoadLaws.{loads}
+-- All left choices where some nonterminal is marked, else none (ShareLaws). Assumes nothing.
+use Rattle.walk.proofs.ShareLaws.{shares}
 use Rattle.walk.proofs.lefts_of.Statement.{statement}
 use Rattle.walk.proofs.lefts_of.Tie as tie
 
-marked-requires : tie.Need-marked-requires
-marked-requires c κs = search loads
-
 choices-requires : tie.Need-choices-requires
-choices-requires c κs = search loads
+choices-requires c κs = search shares
 
 returns : tie.Need-returns
-returns c = search loads
+returns c = search shares
 
 returns-2 : tie.Need-returns-2
-returns-2 c = search loads
+returns-2 c = search shares
 
 pub lefts-of-spec : {M : Type 1} → statement M
-lefts-of-spec = tie.close (tie.spec marked-requires choices-requires returns returns-2)
+lefts-of-spec = tie.close (tie.spec choices-requires returns returns-2)

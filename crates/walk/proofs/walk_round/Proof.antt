@@ -10,33 +10,33 @@ use borrow.Author.Needs.{needs}
 use Rattle.turns.specs.declared.Notes.{Notes}
 use Rattle.walk.proofs.ProgressLaws.{no-notes}
 use Rattle.walk.proofs.VisitLaws.{Going}
-use Rattle.walk.proofs.RoundLaws.{LentParts, AtRule, rule-small, going-begun, left-choosable, right-choosable}
-use Rattle.walk.proofs.RoundLaws.{stage-right, stage-left, stage-rule, stage-kept, stage-stop, round-end}
+use Rattle.walk.proofs.RoundLaws.{LentParts, AtRule, going-begun, left-choosable, right-choosable}
+use Rattle.walk.proofs.RoundLaws.{stage-start, stage-right, stage-left, stage-rule, stage-kept, stage-stop, round-end}
 use Rattle.walk.proofs.walk_round.Statement.{statement}
 use Rattle.walk.proofs.walk_round.Tie as tie
 
 abbrev Inv-loop3 : tie.InvT-loop3
 Inv-loop3 rules schema endings states empty useful table₀ prev n first m₀ notes₀
-    i x left right lefts rights new-left new-right j k₀ table m notes k =
+    i marks left right lefts rights new-left new-right j k₀ table m notes k =
     (length table ≡ length table₀)
     × ((t : List ℕ) → Going states rules schema endings t prev n first i j k₀ table₀ m₀ notes₀
     → Going states rules schema endings t prev n first i j k table m notes)
 
 abbrev μ-loop3 : tie.MeasureT-loop3
 μ-loop3 rules schema endings states empty useful table₀ prev n first m₀ notes₀
-    i x left right lefts rights new-left new-right j k₀ table m notes k =
+    i marks left right lefts rights new-left new-right j k₀ table m notes k =
     rights - k
 
 abbrev Inv-loop2 : tie.InvT-loop2
 Inv-loop2 rules schema endings states empty useful table₀ prev n first m₀ notes₀
-    i x left right lefts rights new-left new-right j₀ table m notes j =
+    i marks left right lefts rights new-left new-right j₀ table m notes j =
     (length table ≡ length table₀)
     × ((t : List ℕ) → Going states rules schema endings t prev n first i j₀ 0 table₀ m₀ notes₀
     → Going states rules schema endings t prev n first i j 0 table m notes)
 
 abbrev μ-loop2 : tie.MeasureT-loop2
 μ-loop2 rules schema endings states empty useful table₀ prev n first m₀ notes₀
-    i x left right lefts rights new-left new-right j₀ table m notes j =
+    i marks left right lefts rights new-left new-right j₀ table m notes j =
     lefts - j
 
 abbrev Inv-loop : tie.InvT-loop
@@ -80,7 +80,7 @@ abbrev start : Rules → Start
 start c = c .before .before .before .before .before .before
 
 abbrev to-rules : Lefts → Rules
-to-rules c = c .before .before .before .before .before .before .before .before .before
+to-rules c = c .before .before .before .before .before .before .before .before .before .before
 
 abbrev to-lefts : Rights → Lefts
 to-lefts c = c .before .before .before .before
@@ -101,24 +101,24 @@ lent s =
       rules-below = s .pre .1 .0;
       ends-below = s .pre .1 .1 .0;
       ruled = s .pre .1 .1 .1 .0;
-      marks = s .pre .1 .1 .1 .1 .0;
+      useful-marks = s .pre .1 .1 .1 .1 .0;
     }
 
 rule : (c : Lefts) → AtRule (now (start-of c .args .rules)) (start-of c .args .useful) (start-of c .args .prev) (start-of c .args .n)
-    (start-of c .args .first) (to-rules c .loop .i) (c .before .before .before .before .before .before .before .left-side .result)
-    (c .before .before .before .before .before .before .left-slot .result) (c .before .before .before .before .before .right-slot .result)
-    (c .before .before .before .before .lefts-of .result) (c .before .before .before .choices .result) (c .before .before .new-from .result)
-    (c .before .new-from2 .result)
+    (start-of c .args .first) (to-rules c .loop .i) (c .before .before .before .before .before .before .before .before .sharers .result)
+    (c .before .before .before .before .before .before .before .left-slot .result) (c .before .before .before .before .before .before .right-slot .result)
+    (c .before .before .before .before .before .lefts-of .result) (c .before .before .before .before .choices .result) (c .before .before .before .new-from .result)
+    (c .before .before .new-from2 .result)
 rule c =
     record {
-      is-rule = c .before .before .before .before .before .before .before .before .loop-test .taken;
-      of = c .before .before .before .before .before .before .before .left-side .ensures;
-      left-is = c .before .before .before .before .before .before .left-slot .ensures;
-      right-is = c .before .before .before .before .before .right-slot .ensures;
-      lefts-is = c .before .before .before .before .lefts-of .ensures;
-      rights-is = c .before .before .before .choices .ensures;
-      new-left = c .before .before .new-from .ensures;
-      new-right = c .before .new-from2 .ensures;
+      is-rule = c .before .before .before .before .before .before .before .before .before .loop-test .taken;
+      sharing = c .before .before .before .before .before .before .before .before .sharers .ensures;
+      left-is = c .before .before .before .before .before .before .before .left-slot .ensures;
+      right-is = c .before .before .before .before .before .before .right-slot .ensures;
+      lefts-is = c .before .before .before .before .before .lefts-of .ensures;
+      rights-is = c .before .before .before .before .choices .ensures;
+      new-left = c .before .before .before .new-from .ensures;
+      new-right = c .before .before .new-from2 .ensures;
     }
 
 -- ---- where the walk from the table t stands
@@ -142,6 +142,10 @@ AtRights c t =
 inward : (c : Rights) (t : List ℕ) → AtLefts (to-lefts c) t → AtRights c t
 inward c t g = c .loop3 .inv .1 t (stage-right (lent (start-of (to-lefts c))) (rule (to-lefts c)) g refl _ (c .before .right-from .ensures))
 
+-- from the head of the outer loop to that of the middle one
+onto-rule : (c : Lefts) (t : List ℕ) → AtRules (to-rules c) t → AtLefts c t
+onto-rule c t g = c .loop2 .inv .1 t (stage-start (lent (start-of c)) (rule c) g refl refl _ (c .before .left-from .ensures))
+
 -- from the table that is lent
 
 stands-rules : (c : Rules) → AtRules c (now (start c .args .table))
@@ -152,7 +156,7 @@ stands-rules c =
     (going-begun (s .pre .1 .1 .1 .1 .1 .0) (s .pre .1 .1 .1 .1 .1 .1) (w .inv .0) (w .inv .1) (w .inv .2) (w .inv .3))
 
 stands-lefts : (c : Lefts) → AtLefts c (now (start-of c .args .table))
-stands-lefts c = c .loop2 .inv .1 (now (start-of c .args .table)) (stands-rules (to-rules c))
+stands-lefts c = onto-rule c (now (start-of c .args .table)) (stands-rules (to-rules c))
 
 stands-rights : (c : Rights) → AtRights c (now (start-of (to-lefts c) .args .table))
 stands-rights c = inward c (now (start-of (to-lefts c) .args .table)) (stands-lefts (to-lefts c))
@@ -170,8 +174,8 @@ walk-holds c = (refl, refl, refl, refl)
 loop-holds : tie.Need-loop-holds Inv-loop3 μ-loop3 Inv-loop2 μ-loop2 Inv-loop μ-loop Inv-walk μ-walk
 loop-holds c = (refl, λ t g. g)
 
-left-side-requires : tie.Need-left-side-requires Inv-loop3 μ-loop3 Inv-loop2 μ-loop2 Inv-loop μ-loop Inv-walk μ-walk
-left-side-requires c κs = search needs
+sharers-requires : tie.Need-sharers-requires Inv-loop3 μ-loop3 Inv-loop2 μ-loop2 Inv-loop μ-loop Inv-walk μ-walk
+sharers-requires c κs = (lent (start (c .before)) .ruled, c .loop-test .taken)
 
 left-slot-requires : tie.Need-left-slot-requires Inv-loop3 μ-loop3 Inv-loop2 μ-loop2 Inv-loop μ-loop Inv-walk μ-walk
 left-slot-requires c κs = search needs
@@ -180,9 +184,7 @@ right-slot-requires : tie.Need-right-slot-requires Inv-loop3 μ-loop3 Inv-loop2 
 right-slot-requires c κs = search needs
 
 lefts-of-requires : tie.Need-lefts-of-requires Inv-loop3 μ-loop3 Inv-loop2 μ-loop2 Inv-loop μ-loop Inv-walk μ-walk
-lefts-of-requires c κs =
-    let head = c .before .before in
-    rule-small _ _ _ (lent (start (head .before .before)) .ruled) (head .before .loop-test .taken) (head .left-side .ensures)
+lefts-of-requires c κs = search needs
 
 choices-requires : tie.Need-choices-requires Inv-loop3 μ-loop3 Inv-loop2 μ-loop2 Inv-loop μ-loop Inv-walk μ-walk
 choices-requires c κs = search needs
@@ -192,6 +194,9 @@ new-from-requires c κs = search needs
 
 new-from-requires-2 : tie.Need-new-from-requires-2 Inv-loop3 μ-loop3 Inv-loop2 μ-loop2 Inv-loop μ-loop Inv-walk μ-walk
 new-from-requires-2 c κs = search needs
+
+left-from-requires : tie.Need-left-from-requires Inv-loop3 μ-loop3 Inv-loop2 μ-loop2 Inv-loop μ-loop Inv-walk μ-walk
+left-from-requires c κs = search needs
 
 loop2-holds : tie.Need-loop2-holds Inv-loop3 μ-loop3 Inv-loop2 μ-loop2 Inv-loop μ-loop Inv-walk μ-walk
 loop2-holds c = (refl, λ t g. g)
@@ -263,7 +268,7 @@ loop-again : tie.Need-loop-again Inv-loop3 μ-loop3 Inv-loop2 μ-loop2 Inv-loop 
 loop-again c =
     let l = c .before in (
       l .loop2 .inv .0 ∙ to-rules l .loop .inv .0,
-      λ t g. stage-rule (lent (start-of l)) (rule l) (l .loop2 .inv .1 t (to-rules l .loop .inv .1 t g)) refl (c .loop2-test .left),
+      λ t g. stage-rule (lent (start-of l)) (rule l) (onto-rule l t (to-rules l .loop .inv .1 t g)) refl (c .loop2-test .left),
     )
 
 same-length : tie.Need-same-length Inv-loop3 μ-loop3 Inv-loop2 μ-loop2 Inv-loop μ-loop Inv-walk μ-walk
@@ -299,13 +304,14 @@ walk-round-spec =
     μ-walk
     walk-holds
     loop-holds
-    left-side-requires
+    sharers-requires
     left-slot-requires
     right-slot-requires
     lefts-of-requires
     choices-requires
     new-from-requires
     new-from-requires-2
+    left-from-requires
     loop2-holds
     right-from-requires
     loop3-holds
