@@ -4,5 +4,6 @@ pub mod SchemaLaws
 pub mod RelationLaws
 pub mod Relates
 pub mod NumberLaws
+pub mod UnitLaws
 pub mod LoopLaws
 pub mod CoverLaws

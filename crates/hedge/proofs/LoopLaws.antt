@@ -1,24 +1,27 @@
 -- What the loops and branches of the code have, in the very words in which the code has it, so that `search turns` chains them: none,
 -- next and end of a loop; a state that was read is below the width; the value in each arm of a branch. Each follows from one law of
--- BitLaws or RelationLaws. Assumes nothing.
+-- BitLaws, RelationLaws or UnitLaws. Assumes nothing.
 use mathlib.Core.Path.{_≡_, refl, sym, ap₂, _∙_}
 use mathlib.Core.Bool.{Bool, true, false, _&&_, _||_}
 use mathlib.Core.List.{List}
 use Prim.Native.Nat.{ℕ, _+_, _*_, _/_, _%_, _^_, _≤_, _<_}
+use native.Mathlib.Nat.{mod-eq-of-lt}
 use native.Mathlib.Numerals.{add-one}
 use native.Mathlib.Omega.{arith}
 use lib.Arith.{digits-lt}
 use lib.Bits.{bitOr}
 use lib.ListN.{length, getD}
+use lib.Pow.{pow-pos}
 use mir.Syntax.{w64}
 use mir.Val.{Fits}
 use borrow.Author.Needs.{needs}
 use borrow.Author.Tests.{eq-eqb, ne-eqb}
 use Rattle.hedge.specs.Schema.{field, RulesBelow, EndsBelow}
 use Rattle.hedge.specs.Relation.{has}
-use Rattle.hedge.specs.Operations.{any, linked, ended, onePair, fires, wrapped, one-if, number, lowest, relation, wrap}
+use Rattle.hedge.specs.Operations.{any, linked, ended, onePair, fires, wrapped, one-if, number, lowest, relation, unit, compose, wrap}
 use Rattle.hedge.proofs.BitLaws.{number-lt, number-more, shl-one, top-lt}
 use Rattle.hedge.proofs.RelationLaws.{relation-cong, relation-none, relation-one, relation-or}
+use Rattle.hedge.proofs.UnitLaws.{unit-compose}
 
 -- ---- a test of some number
 
@@ -75,6 +78,28 @@ top-off k t r e = rw e (omega arith)
 
 pub top-fits : (k r : ℕ) → r < 2 ^ k → k < 64 → Fits w64 (r + (1 * 2 ^ k) % 2 ^ 64)
 top-fits k r hr h = record { fits = rw (shl-one k 64 h) (top-lt r k 64 hr h) }
+
+-- ---- the first rows, and the empty word before another
+
+rows-power : (q : ℕ) → q < 8 → (1 * 2 ^ (q * 8)) % 2 ^ 64 ≡ 2 ^ (q * 8)
+rows-power q h = shl-one (q * 8) 64 (omega arith)
+
+pub rows-power-positive : (q : ℕ) → q < 8 → 0 < (1 * 2 ^ (q * 8)) % 2 ^ 64
+rows-power-positive q h = rw (rows-power q h) (pow-pos (q * 8))
+
+pub rows-some : (q r : ℕ) → q < 8 → r % ((1 * 2 ^ (q * 8)) % 2 ^ 64) ≡ r % 2 ^ (q * 8)
+rows-some q r h = rw (rows-power q h)
+
+pub rows-all : (q r : ℕ) → q ≤ 8 → 8 ≤ q → Fits w64 r → r ≡ r % 2 ^ (q * 8)
+rows-all q r h h′ f = let e : q ≡ 8 = omega arith in rw e (sym (mod-eq-of-lt (f .fits)))
+
+pub empty-before : (q empty left right s : ℕ) → q ≤ 8
+    → empty ≡ unit 8 q
+    → left ≡ empty
+    → Fits w64 right
+    → s ≡ right % 2 ^ (q * 8)
+    → s ≡ compose 8 q left right
+empty-before q empty left right s h e d f p = rw (d, e, unit-compose 8 q right h (f .fits)) p
 
 -- ---- states that were read
 
@@ -158,6 +183,10 @@ pub ruleset turns = (
   top-on,
   top-off,
   top-fits,
+  rows-power-positive,
+  rows-some,
+  rows-all,
+  empty-before,
   read-ending-below,
   read-left-below,
   read-inside-below,

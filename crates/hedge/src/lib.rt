@@ -1,7 +1,8 @@
 // Relations of at most eight states as numbers of 64 bits: the unit, composition, an element around a word, acceptance. Composition goes
-// bit by bit. What the numbers mean is shown in proofs/, over any number of states and any width of a row.
+// bit by bit, but for an empty word on the left. What the numbers mean is shown in proofs/, over any number of states and any width of
+// a row.
 ghost use mathlib.Core.Path.{_≡_};
-ghost use Prim.Native.Nat.{_+_, _*_, _/_, _^_, _<_, _≤_};
+ghost use Prim.Native.Nat.{_+_, _*_, _/_, _%_, _^_, _<_, _≤_};
 ghost use lib.ListN.{length};
 ghost use Rattle.hedge.specs.Schema.{field, RulesBelow, EndsBelow};
 ghost use Rattle.hedge.specs.Relation.{has};
@@ -67,6 +68,30 @@ pub fn compose(states: usize, left: u64, right: u64) -> u64
         k += 1;
     }
     r
+}
+
+// The rows of the states there are.
+fn first_rows(states: usize, r: u64) -> u64
+    requires { ⌜ states ≤ 8 ⌝ }
+    ensures { λ s. ⌜ s ≡ r % 2 ^ (states * 8) ⌝ }
+{
+    if states < 8 {
+        r % (1u64 << (states * 8))
+    } else {
+        r
+    }
+}
+
+// The relation of two words in a row, the left one often empty: what follows the empty word stays, but for rows of no state.
+pub fn follow(states: usize, empty: u64, left: u64, right: u64) -> u64
+    requires { ⌜ states ≤ 8 ⌝ }
+    requires { ⌜ empty ≡ unit 8 states ⌝ }
+    ensures { λ r. ⌜ r ≡ compose 8 states left right ⌝ }
+{
+    if left == empty {
+        return first_rows(states, right);
+    }
+    compose(states, left, right)
 }
 
 // Field j of rule i, of four bytes; of a schema rule X, a, Y, Z.

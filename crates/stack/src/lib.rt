@@ -4,8 +4,7 @@ ghost use mathlib.Core.Path.{_≡_};
 ghost use Prim.Native.Nat.{_+_, _-_, _<_, _≤_};
 ghost use mathlib.Core.Bool.{true};
 ghost use lib.ListN.{getD, set};
-ghost use Rattle.hedge.specs.Schema.{RulesBelow, EndsBelow};
-ghost use Rattle.hedge.specs.Operations.{compose, wrap};
+ghost use Rattle.hedge.specs.Operations.{unit, compose, wrap};
 ghost use Rattle.stack.specs.Held.{tagOf, Holds};
 ghost use Rattle.stack.specs.Steps.{Schooled, Stepped, after-tag, after-turn, after-form};
 
@@ -38,13 +37,20 @@ fn take_tag(names: &mut [u8; 16], values: &mut [u64; 17], n: usize, value: u64)
 }
 
 // The relation of a word and, behind it, the element of this name around another word.
-fn closed(schema: &[u8], endings: &[u8], states: usize, name: u8, before: u64, inner: u64) -> u64
-    requires { ⌜ states ≤ 8 ⌝ }
-    requires { ⌜ RulesBelow 8 (now schema) ⌝ }
-    requires { ⌜ EndsBelow 8 (now endings) ⌝ }
+fn closed(
+    schema: &[u8],
+    endings: &[u8],
+    states: usize,
+    empty: u64,
+    name: u8,
+    before: u64,
+    inner: u64,
+) -> u64
+    requires { ⌜ Schooled states (now schema) (now endings) empty ⌝ }
     ensures { λ r. ⌜ r ≡ compose 8 states before (wrap 8 (now (schema .entry)) (now (endings .entry)) name inner) ⌝ }
 {
-    hedge::compose(states, before, hedge::wrap(schema, endings, name, inner))
+    let element = hedge::wrap(schema, endings, name, inner);
+    hedge::follow(states, empty, before, element)
 }
 
 // An end tag where starts stand unmatched: it meets the innermost.
@@ -70,7 +76,15 @@ fn meet(
     if open != name {
         return Step::Mismatch(open, name);
     }
-    let value = closed(schema, endings, states, name, values[n - 1], values[n]);
+    let value = closed(
+        schema,
+        endings,
+        states,
+        empty,
+        name,
+        values[n - 1],
+        values[n],
+    );
     take_tag(names, values, n, value);
     Step::Kept(ends, starts - 1)
 }
@@ -122,11 +136,11 @@ pub fn then_tag(
 }
 
 // A balanced word of this relation more, behind n tags.
-fn add_value(values: &mut [u64; 17], states: usize, n: usize, value: u64)
-    requires { ⌜ (states ≤ 8) × (n ≤ 16) ⌝ }
+fn add_value(values: &mut [u64; 17], states: usize, empty: u64, n: usize, value: u64)
+    requires { ⌜ (states ≤ 8) × (empty ≡ unit 8 states) × (n ≤ 16) ⌝ }
     ensures { λ r. ⌜ now (values .exit) ≡ set (now (values .entry)) n (compose 8 states (getD (now (values .entry)) n 0) value) ⌝ }
 {
-    values[n] = hedge::compose(states, values[n], value);
+    values[n] = hedge::follow(states, empty, values[n], value);
 }
 
 // One tag more, and a balanced word of this relation.
@@ -162,7 +176,7 @@ fn turn(
     );
     match s {
         Step::Kept(e, k) => {
-            add_value(values, states, e + k, value);
+            add_value(values, states, empty, e + k, value);
             Step::Kept(e, k)
         }
         Step::Mismatch(a, b) => Step::Mismatch(a, b),
@@ -193,7 +207,7 @@ pub fn then_form(
         (after-form states (now (schema .entry)) (now (endings .entry)) ends starts (now (names .entry)) (now (values .entry))
         closing (now (tags .entry)) (now (relations .entry)) count) ⌝ }
 {
-    add_value(values, states, ends + starts, relations[0]);
+    add_value(values, states, empty, ends + starts, relations[0]);
     let mut e = ends;
     let mut s = starts;
     let mut k = 0;

@@ -3,14 +3,14 @@ use borrow.Author.Needs.{needs}
 use Rattle.stack.proofs.add_value.Statement.{statement}
 use Rattle.stack.proofs.add_value.Tie as tie
 
-mul-compose : tie.Need-mul-compose
-mul-compose c = search needs
+mul-follow : tie.Need-mul-follow
+mul-follow c = search needs
 
-element-copy-out-compose : tie.Need-element-copy-out-compose
-element-copy-out-compose c = search needs
+element-copy-out-follow : tie.Need-element-copy-out-follow
+element-copy-out-follow c = search needs
 
-compose-requires : tie.Need-compose-requires
-compose-requires c κs = search needs
+follow-requires : tie.Need-follow-requires
+follow-requires c κs = search needs
 
 mul-values : tie.Need-mul-values
 mul-values c = search needs
@@ -23,4 +23,4 @@ returns c = cc
 
 pub add-value-spec : {M : Type 1} → statement M
 add-value-spec =
-    tie.close (tie.spec mul-compose element-copy-out-compose compose-requires mul-values element-write-values returns)
+    tie.close (tie.spec mul-follow element-copy-out-follow follow-requires mul-values element-write-values returns)

@@ -1,0 +1,60 @@
+-- The empty word before another. The unit of q states composed with a relation leaves its first q rows, which are its remainder by
+-- 2 ^ (q * K): a pair (x, z) is on either side exactly when x is below q and the relation has it. Assumes nothing.
+use mathlib.Core.Path.{_≡_, refl, sym, ap, _∙_}
+use mathlib.Core.Bool.{true, false, false≢true}
+use Prim.Native.Nat.{ℕ, _+_, _-_, _*_, _/_, _%_, _^_, _≤_, _<_}
+use native.Mathlib.Nat.{mod-lt, mod-le, lt-of-lt-of-le, lt-of-le-of-lt, le-trans, le-add-right, mul-le-mul-right}
+use native.Mathlib.Decide.{decLt}
+use native.Mathlib.Omega.{arith}
+use lib.Arith.{digits-lt}
+use lib.Pow.{pow-pos, field, mod-mod-pow}
+use Rattle.hedge.specs.Relation.{bit, has}
+use Rattle.hedge.specs.Operations.{linked, unit, compose}
+use Rattle.hedge.proofs.TestLaws.{ext-true}
+use Rattle.hedge.proofs.BitLaws.{digit-bit, bit-digit, bit-past}
+use Rattle.hedge.proofs.RelationLaws.{relation-lt, relation-ext, unit-members, compose-members}
+
+-- ---- bits of a remainder
+
+bit-of-rest : (r k i : ℕ) → bit (r % 2 ^ (i + 1 + k)) k ≡ bit r k
+bit-of-rest r k i =
+    bit-digit (r % 2 ^ (i + 1 + k)) k (bit r k)
+    (ap (λ (n : ℕ). n % 2) (field r (i + 1) k) ∙ mod-mod-pow (r / 2 ^ k) i 1 ∙ digit-bit r k)
+
+bit-rest : (r n k : ℕ) → k < n → bit (r % 2 ^ n) k ≡ bit r k
+bit-rest r n k h = let e : n - k - 1 + 1 + k ≡ n = omega arith in rw e at (bit-of-rest r k (n - k - 1))
+
+-- ---- the first q rows
+
+module _ (K q r : ℕ) where
+  row-kept : (x z : ℕ) → x < q → z < K → has K (r % 2 ^ (q * K)) x z ≡ has K r x z
+  unfolding has
+  row-kept x z hx hz = bit-rest r (q * K) (x * K + z) (digits-lt hx hz)
+
+  row-gone : (x z : ℕ) → q ≤ x → has K (r % 2 ^ (q * K)) x z ≡ false
+  unfolding has
+  row-gone x z h =
+      bit-past (r % 2 ^ (q * K)) (q * K) (x * K + z) (mod-lt r (pow-pos (q * K)))
+      (le-trans (mul-le-mul-right K h) (le-add-right (x * K) z))
+
+  module _ (fits : q ≤ K) where
+    same-pairs : (x z : ℕ) → x < K → z < K → has K (compose K q (unit K q) r) x z ≡ has K (r % 2 ^ (q * K)) x z
+    same-pairs x z hx hz = ext-true (there, back (decLt x q))
+      where
+        there : has K (compose K q (unit K q) r) x z ≡ true → has K (r % 2 ^ (q * K)) x z ≡ true
+        there t =
+            let (y, hy, u, v) = compose-members K q (unit K q) r x z hx hz .0 t in
+            let (e, h) = unit-members K q x y hx (lt-of-lt-of-le hy fits) .0 u in
+            row-kept x z h hz ∙ rw e v
+
+        back : Dec (x < q) → has K (r % 2 ^ (q * K)) x z ≡ true → has K (compose K q (unit K q) r) x z ≡ true
+        back (yes h) t =
+            compose-members K q (unit K q) r x z hx hz .1
+            (x, h, unit-members K q x x hx hx .1 (refl, h), sym (row-kept x z h hz) ∙ t)
+        back (no h) t = absurd (false≢true (sym (row-gone x z (omega arith)) ∙ t))
+
+    pub unit-compose : r < 2 ^ (K * K) → compose K q (unit K q) r ≡ r % 2 ^ (q * K)
+    unfolding compose
+    unit-compose small =
+        relation-ext K (compose K q (unit K q) r) (r % 2 ^ (q * K)) (relation-lt K (linked q (has K (unit K q)) (has K r)))
+        (lt-of-le-of-lt (mod-le r (2 ^ (q * K))) small) same-pairs
