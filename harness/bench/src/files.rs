@@ -1,5 +1,5 @@
 //! Template files: document 01's layout, and the sets that are timed.
-use peers::random::Random;
+use seeds::Rng;
 use std::collections::BTreeSet;
 
 pub type Entry = [u8; 4];
@@ -47,7 +47,7 @@ pub fn k() -> Set {
 /// A schema of so many names, states and rules in which any elements may stand anywhere, and no template rule. State 0 takes every
 /// name, and the other rules are random.
 pub fn open_schema(names: u8, states: u8, rules: usize) -> Set {
-    let mut numbers = Random::new(rules as u64);
+    let mut numbers = Rng::new(rules as u64);
     let mut schema: BTreeSet<Entry> = (0..names).map(|a| [0, a, 0, 0]).collect();
     assert!(rules <= names as usize * (states as usize).pow(3));
     while schema.len() < rules {

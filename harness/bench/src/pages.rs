@@ -2,12 +2,12 @@
 use crate::files::{open_schema, Set};
 use crate::table::{section, Growth};
 use crate::timing::{best, job};
-use peers::random::Random;
+use seeds::Rng;
 use std::hint::black_box;
 
 /// About so many tags: elements nested so deep, side by side.
 fn comb(set: &Set, depth: usize, tags: usize) -> Vec<u8> {
-    let mut numbers = Random::new(depth as u64);
+    let mut numbers = Rng::new(depth as u64);
     let mut page = Vec::new();
     while page.len() < tags {
         let names: Vec<u8> = (0..depth)

@@ -4,9 +4,9 @@ use crate::files::Set;
 use crate::sets::{page_schema, A, BODY, DIV, HEAD, HTML, LI, P, TITLE, UL};
 use crate::table::{head, ratio, row, section, time};
 use crate::timing::{best, job, Job};
-use peers::random::Random;
 use peers::schema::Schema;
 use peers::{markup, relaxng, tools};
+use seeds::Rng;
 use std::fs;
 use std::hint::black_box;
 use std::path::{Path, PathBuf};
@@ -15,11 +15,11 @@ use std::time::Instant;
 
 /// A valid page of about so many tags, nested at most 15 deep.
 fn page(tags: usize) -> Vec<u8> {
-    let mut numbers = Random::new(tags as u64);
+    let mut numbers = Rng::new(tags as u64);
     let mut page = vec![HTML, HEAD, TITLE, 32 + TITLE, 32 + HEAD, BODY];
     while page.len() < tags {
         let mut open = vec![DIV; numbers.below(10)];
-        if numbers.chance(3) {
+        if numbers.once_in(3) {
             open.extend([UL, LI]);
         }
         open.push(P);

@@ -1,6 +1,6 @@
 //! Larger template sets: of the sizes in the source's Table 1, and hostile ones.
 use crate::files::{Entry, Set};
-use peers::random::Random;
+use seeds::Rng;
 use std::collections::BTreeSet;
 
 /// Element names and states of a small page schema in the manner of XHTML, which uses all 8 states.
@@ -61,7 +61,7 @@ pub fn program(nonterminals: u8, rules: usize, tags: u8) -> Set {
         set.rules.insert([this + 1, 2, symbol(next), 32 + DIV]);
     }
     set.rules.insert([x(pairs - 1), 0, 255, 255]);
-    let mut numbers = Random::new(rules as u64);
+    let mut numbers = Rng::new(rules as u64);
     assert!(set.rules.len() <= rules);
     while set.rules.len() < rules {
         let [i, j, k] = [0; 3].map(|_: u8| x(numbers.below(pairs as usize) as u8));

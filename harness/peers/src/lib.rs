@@ -6,7 +6,6 @@
 pub mod expression;
 pub mod markup;
 pub mod pages;
-pub mod random;
 pub mod relaxng;
 pub mod schema;
 pub mod tools;

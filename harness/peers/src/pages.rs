@@ -1,6 +1,6 @@
 //! Pages to be judged: derived from a schema, changed a little, and random.
-use crate::random::Random;
 use crate::schema::Schema;
+use seeds::Rng;
 
 /// The most tags of a sampled page, beyond those that its schema forces.
 const LENGTH: usize = 40;
@@ -40,7 +40,7 @@ impl<'a> Sampler<'a> {
     }
 
     /// A page that state 0 derives, if any nests no deeper than asked.
-    pub fn page(&self, random: &mut Random) -> Option<Vec<u8>> {
+    pub fn page(&self, random: &mut Rng) -> Option<Vec<u8>> {
         let depth = 1 + random.below(self.deepest);
         let depth = (depth..=self.deepest).find(|&d| self.fewest[d][0] < NEVER)?;
         let tags = self.fewest[depth][0] + random.below(LENGTH);
@@ -50,14 +50,7 @@ impl<'a> Sampler<'a> {
     }
 
     /// What the state derives with about so many tags; never deeper, and never more tags than asked for.
-    fn derive(
-        &self,
-        random: &mut Random,
-        state: u8,
-        depth: usize,
-        tags: usize,
-        page: &mut Vec<u8>,
-    ) {
+    fn derive(&self, random: &mut Rng, state: u8, depth: usize, tags: usize, page: &mut Vec<u8>) {
         let cost = |r: &[u8; 4]| {
             2 + self.fewest[depth - 1][r[2] as usize] + self.fewest[depth][r[3] as usize]
         };
@@ -69,7 +62,7 @@ impl<'a> Sampler<'a> {
                 .filter(|r| cost(r) <= tags)
                 .collect(),
         };
-        if rules.is_empty() || (self.schema.ends(state) && random.chance(8)) {
+        if rules.is_empty() || (self.schema.ends(state) && random.once_in(8)) {
             return;
         }
         let rule = rules[random.below(rules.len())];
@@ -83,11 +76,11 @@ impl<'a> Sampler<'a> {
 }
 
 /// A balanced page over so many names, of so many tags, that nests at most so deep.
-pub fn balanced(random: &mut Random, names: u8, tags: usize, deepest: usize) -> Vec<u8> {
+pub fn balanced(random: &mut Rng, names: u8, tags: usize, deepest: usize) -> Vec<u8> {
     let mut page = Vec::new();
     let mut open = Vec::new();
     while page.len() + open.len() < tags {
-        if open.is_empty() || (open.len() < deepest && random.chance(2)) {
+        if open.is_empty() || (open.len() < deepest && random.once_in(2)) {
             open.push(random.below(names as usize) as u8);
             page.push(*open.last().unwrap());
         } else {
@@ -99,7 +92,7 @@ pub fn balanced(random: &mut Random, names: u8, tags: usize, deepest: usize) -> 
 }
 
 /// Tags in any order.
-pub fn unruly(random: &mut Random, names: u8, tags: usize) -> Vec<u8> {
+pub fn unruly(random: &mut Rng, names: u8, tags: usize) -> Vec<u8> {
     (0..tags)
         .map(|_| (random.below(names as usize) + 32 * random.below(2)) as u8)
         .collect()
@@ -118,11 +111,11 @@ fn end_of(page: &[u8], start: usize) -> usize {
 }
 
 /// A balanced page with one element renamed, taken out, opened up, put in, doubled, or moved.
-pub fn changed(random: &mut Random, names: u8, page: &[u8]) -> Vec<u8> {
+pub fn changed(random: &mut Rng, names: u8, page: &[u8]) -> Vec<u8> {
     let a = random.below(names as usize) as u8;
     let mut page = page.to_vec();
     let starts: Vec<usize> = (0..page.len()).filter(|&i| page[i] < 32).collect();
-    if starts.is_empty() || random.chance(5) {
+    if starts.is_empty() || random.once_in(5) {
         let at = random.below(page.len() + 1);
         page.splice(at..at, [a, 32 + a]);
         return page;
@@ -145,7 +138,7 @@ pub fn changed(random: &mut Random, names: u8, page: &[u8]) -> Vec<u8> {
 }
 
 /// A page with one tag changed, taken out or put in, so that it is most often not balanced.
-pub fn torn(random: &mut Random, names: u8, page: &[u8]) -> Vec<u8> {
+pub fn torn(random: &mut Rng, names: u8, page: &[u8]) -> Vec<u8> {
     let tag = unruly(random, names, 1)[0];
     let mut page = page.to_vec();
     let at = random.below(page.len() + 1);
@@ -158,7 +151,7 @@ pub fn torn(random: &mut Random, names: u8, page: &[u8]) -> Vec<u8> {
 }
 
 /// The page inside up to so many elements more.
-pub fn nested(random: &mut Random, names: u8, page: &[u8], more: usize) -> Vec<u8> {
+pub fn nested(random: &mut Rng, names: u8, page: &[u8], more: usize) -> Vec<u8> {
     let mut page = page.to_vec();
     for _ in 0..1 + random.below(more) {
         let a = random.below(names as usize) as u8;

@@ -1,5 +1,5 @@
 //! Schemas of document 01: those it names, and random ones.
-use crate::random::Random;
+use seeds::Rng;
 use std::collections::BTreeSet;
 
 /// A rule X, a, Y, Z: X gives start a, Y, end a, Z.
@@ -100,7 +100,7 @@ fn affordable(schema: &Schema) -> usize {
 
 /// A random schema of at most so many rules; without two rules of a state and a name where `deterministic`.
 pub fn random(
-    random: &mut Random,
+    random: &mut Rng,
     states: u8,
     names: u8,
     rules: usize,
@@ -119,7 +119,7 @@ pub fn random(
             chosen.insert([x, a, rest[0], rest[1]]);
         }
     }
-    let endings: Vec<u8> = (0..states).filter(|_| random.chance(2)).collect();
+    let endings: Vec<u8> = (0..states).filter(|_| random.once_in(2)).collect();
     let label = format!("{states} states, {names} names, {} rules", chosen.len());
     let mut schema = Schema::new(&label, names, states, &Vec::from_iter(chosen), &endings);
     if !schema.is_deterministic() {

@@ -11,10 +11,10 @@
 //! xmllint has a time limit for each schema; pages that it does not come to are counted and printed too.
 //! `PEERS_GROUPS` sets another number of groups.
 use peers::pages::{balanced, changed, nested, torn, unruly, Sampler};
-use peers::random::Random;
 use peers::schema::{named, random, trouble, Schema};
 use peers::tools::{installed, jing, xmllint, Verdict};
 use peers::{markup, relaxng};
+use seeds::Rng;
 use std::fs;
 use std::path::PathBuf;
 use std::time::Duration;
@@ -82,7 +82,7 @@ fn read(file: &[u8], page: &[u8]) -> Option<Verdict> {
 /// The schemas of a group: document 01's own in the first, then random ones, every second of them deterministic.
 fn schemas(group: usize) -> Vec<Schema> {
     let size = group % 8;
-    let mut numbers = Random::new(1000 + group as u64);
+    let mut numbers = Rng::new(1000 + group as u64);
     let mut schemas = if group == 0 { named() } else { Vec::new() };
     if group == 0 {
         schemas.push(trouble().0);
@@ -101,7 +101,7 @@ fn schemas(group: usize) -> Vec<Schema> {
 }
 
 /// Pages of every kind under one schema.
-fn pages(schema: &Schema, numbers: &mut Random) -> Vec<Vec<u8>> {
+fn pages(schema: &Schema, numbers: &mut Rng) -> Vec<Vec<u8>> {
     let deepest = schema.deepest;
     let sampler = Sampler::new(schema, deepest);
     let names = schema.names;
@@ -115,7 +115,7 @@ fn pages(schema: &Schema, numbers: &mut Random) -> Vec<Vec<u8>> {
         pages.push(near);
         pages.push(torn(numbers, names, &base));
         pages.push(nested(numbers, names, &base, deepest));
-        pages.push(match numbers.chance(2) {
+        pages.push(match numbers.once_in(2) {
             true => balanced(numbers, names, tags, deepest),
             false => unruly(numbers, names, tags),
         });
@@ -129,7 +129,7 @@ fn pages(schema: &Schema, numbers: &mut Random) -> Vec<Vec<u8>> {
 
 /// Makes a group, and writes its grammar and its pages into the folder.
 fn group(number: usize, folder: &Folder) -> Group {
-    let mut numbers = Random::new(number as u64);
+    let mut numbers = Rng::new(number as u64);
     let schemas = schemas(number);
     let (mut cases, mut deep, mut steep) = (Vec::new(), 0, 0);
     for (k, schema) in schemas.iter().enumerate() {

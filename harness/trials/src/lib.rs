@@ -5,7 +5,6 @@
 
 pub mod gen;
 pub mod library;
-pub mod rng;
 pub mod same;
 pub mod tally;
 pub mod trial;

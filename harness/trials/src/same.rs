@@ -2,8 +2,8 @@
 //! tables must agree; what a call must leave alone is compared with what was lent.
 
 use crate::library;
-use crate::rng::Rng;
 use plain::{ROW, TABLE};
+use seeds::Rng;
 use std::fmt::Debug;
 
 /// What differs, with the whole input.

@@ -3,9 +3,9 @@
 use crate::gen::rows::{self, Under};
 use crate::gen::sample::Sampler;
 use crate::gen::{damage, pages, sets, sizes};
-use crate::rng::Rng;
 use crate::same::{same_check, same_fragment, same_join, same_net_depth, same_page, Difference};
 use crate::tally::{Tally, CHECK, FRAGMENT, JOIN, NET_DEPTH, PAGE};
+use seeds::Rng;
 
 /// How many comparisons a round makes of each kind (fewer of a file that is not sound).
 pub struct Sizes {

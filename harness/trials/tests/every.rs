@@ -1,9 +1,9 @@
 //! Small ranges gone through from end to end.
 
+use seeds::Rng;
 use std::collections::BTreeSet;
 use trials::gen::rows::{self, Under};
 use trials::gen::{damage, named, sets};
-use trials::rng::Rng;
 use trials::same::{same_check, same_fragment, same_join, same_net_depth, same_page, Agreed};
 
 fn must(agreed: Agreed) -> u32 {

@@ -3,10 +3,10 @@
 use plain::file::read;
 use plain::oracle::reading;
 use plain::{Row, ROW};
+use seeds::Rng;
 use trials::gen::sample::Sampler;
 use trials::gen::{pages, sets};
 use trials::library::{fragment, join, page};
-use trials::rng::Rng;
 
 /// What a part or a join comes to: its row, or 11, or 12.
 type Outcome = Result<Row, u32>;

@@ -1,6 +1,6 @@
 //! The quick run: seeded rounds over all kinds of input, and a look at what they saw.
 
-use trials::rng::Rng;
+use seeds::Rng;
 use trials::tally::{Tally, ANSWERS, CHECK, FRAGMENT, JOIN, NET_DEPTH, PAGE};
 use trials::trial::{round, QUICK};
 

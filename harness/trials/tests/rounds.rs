@@ -5,10 +5,10 @@ use plain::oracle::reading::row;
 use plain::oracle::trees::Cap;
 use plain::oracle::verdict::{verdict, Image};
 use plain::{ROW, TABLE};
+use seeds::Rng;
 use std::collections::BTreeSet;
 use trials::gen::{named, sets};
 use trials::library::check;
-use trials::rng::Rng;
 
 const CAP: Cap = Cap {
     strings: 300,

@@ -6,10 +6,10 @@ use plain::oracle::derive::valid;
 use plain::oracle::trees::{useful, Cap, Strings};
 use plain::oracle::words::{mismatched, nests_past_16};
 use plain::TABLE;
+use seeds::Rng;
 use trials::gen::sample::Sampler;
 use trials::gen::sets;
 use trials::library::{check, page};
-use trials::rng::Rng;
 
 const CAP: Cap = Cap {
     strings: 400,

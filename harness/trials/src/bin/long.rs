@@ -2,9 +2,9 @@
 //!
 //! Exits with 1 at the first difference and prints its input as numbers.
 
+use seeds::Rng;
 use std::process::ExitCode;
 use std::time::Instant;
-use trials::rng::Rng;
 use trials::tally::Tally;
 use trials::trial::{round, LONG};
 

@@ -1,7 +1,7 @@
 //! Damaged files: each fault of each field by aim, and blows at random.
 
 use super::draft::{lay, Draft};
-use crate::rng::Rng;
+use seeds::Rng;
 
 /// A damaged file; once in a while with two faults, so that their order matters.
 pub fn any(draft: &Draft, rng: &mut Rng) -> Vec<u8> {

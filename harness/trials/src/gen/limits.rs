@@ -3,7 +3,7 @@
 use super::draft::{nonterminal, rule, Draft};
 use super::sets::numbers;
 use super::{named, schemas, typed};
-use crate::rng::Rng;
+use seeds::Rng;
 
 /// Elements in elements without end, under few nonterminals: their pages nest past 16.
 pub fn nested(rng: &mut Rng) -> Draft {

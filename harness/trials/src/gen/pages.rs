@@ -1,7 +1,7 @@
 //! Pages and fragments: valid, nearly valid, deep, random.
 
 use super::sample::Sampler;
-use crate::rng::Rng;
+use seeds::Rng;
 
 /// A page or fragment of any kind for a file with `names` names; samples come from the sampler
 /// where the file is sound.

@@ -1,8 +1,8 @@
 //! Rows lent as summaries: true ones, well-formed ones that no fragment has, broken ones.
 
 use super::pages;
-use crate::rng::Rng;
 use plain::ROW;
+use seeds::Rng;
 
 /// The numbers of a sound file, and its bytes.
 #[derive(Clone, Copy)]

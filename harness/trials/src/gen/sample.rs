@@ -1,7 +1,7 @@
 //! Strings sampled from a file's grammar, and pages sampled from its schema.
 
-use crate::rng::Rng;
 use plain::file::File;
+use seeds::Rng;
 
 /// No sample is longer.
 const LONGEST: usize = 600;

@@ -1,7 +1,7 @@
 //! Schemas of many kinds, put into a draft by its own numbers.
 
 use super::draft::Draft;
-use crate::rng::Rng;
+use seeds::Rng;
 
 /// Gives a draft a schema of any kind.
 pub fn any(draft: &mut Draft, rng: &mut Rng) {

@@ -2,7 +2,7 @@
 
 use super::draft::{nonterminal, rule, Draft};
 use super::{limits, named, schemas, typed};
-use crate::rng::Rng;
+use seeds::Rng;
 
 /// A sound file of any shape.
 pub fn any(rng: &mut Rng) -> Draft {

@@ -1,7 +1,7 @@
 //! Lengths of tables and rows, and budgets.
 
-use crate::rng::Rng;
 use plain::TABLE;
+use seeds::Rng;
 
 /// Mostly a little more than needed.
 pub fn table(rng: &mut Rng) -> usize {

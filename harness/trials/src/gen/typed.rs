@@ -2,7 +2,7 @@
 //! they pass, and one changed symbol breaks them.
 
 use super::draft::{rule, Draft};
-use crate::rng::Rng;
+use seeds::Rng;
 use std::collections::HashMap;
 
 /// The unmatched tags of a symbol's strings.
