@@ -15,7 +15,7 @@ pub use answer::{Answer, Refusal};
 pub const TABLE: usize = 5_120;
 pub const ROW: usize = 20;
 
-/// The largest budget; with it a check always decides.
+/// The largest budget; with it a check never answers 5.
 pub const BUDGET: usize = 257;
 
 /// A passed check: the round that found nothing new, and the number of images at the front of the worktable.
