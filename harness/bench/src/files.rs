@@ -1,4 +1,5 @@
 //! Template files: document 01's layout, and the sets that are timed.
+use plain::file::File;
 use seeds::Rng;
 use std::collections::BTreeSet;
 
@@ -17,18 +18,16 @@ pub struct Set {
 
 impl Set {
     pub fn bytes(&self) -> Vec<u8> {
-        let counts = [self.rules.len(), self.schema.len(), self.endings.len()].map(|n| n as u16);
-        let schema_at = 16 + 4 * counts[0];
-        let offsets = [16, schema_at, schema_at + 4 * counts[1]];
-        let mut file = vec![self.names, self.nonterminals, self.states, 0];
-        for i in 0..3 {
-            file.extend(offsets[i].to_le_bytes());
-            file.extend(counts[i].to_le_bytes());
+        let list = |entries: &BTreeSet<Entry>| entries.iter().copied().collect::<Vec<_>>();
+        File {
+            names: self.names,
+            nonterminals: self.nonterminals,
+            states: self.states,
+            rules: &list(&self.rules),
+            schema: &list(&self.schema),
+            ending: &self.endings.iter().copied().collect::<Vec<_>>(),
         }
-        file.extend(self.rules.iter().flatten());
-        file.extend(self.schema.iter().flatten());
-        file.extend(&self.endings);
-        file
+        .bytes()
     }
 }
 

@@ -1,4 +1,5 @@
 //! Schemas of document 01: those it names, and random ones.
+use plain::file::File;
 use seeds::Rng;
 use std::collections::BTreeSet;
 
@@ -46,21 +47,15 @@ impl Schema {
 
     /// The template file of this schema, with one nonterminal and no template rules.
     pub fn file(&self) -> Vec<u8> {
-        let schema_end = 16 + 4 * self.rules.len() as u16;
-        let mut file = vec![self.names, 1, self.states, 0];
-        for half in [
-            16,
-            0,
-            16,
-            self.rules.len() as u16,
-            schema_end,
-            self.endings.len() as u16,
-        ] {
-            file.extend(half.to_le_bytes());
+        File {
+            names: self.names,
+            nonterminals: 1,
+            states: self.states,
+            rules: &[],
+            schema: &self.rules,
+            ending: &self.endings,
         }
-        file.extend(self.rules.iter().flatten());
-        file.extend(&self.endings);
-        file
+        .bytes()
     }
 }
 

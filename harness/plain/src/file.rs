@@ -1,4 +1,4 @@
-//! The template file: its order of reading, its first fault, its three lists.
+//! The template file: its order of reading, its first fault, its three lists; and its layout, for those who make one.
 
 /// A sound file: its three numbers and its lists, which are parts of the lent file.
 #[derive(Clone, Copy, Debug)]
@@ -9,6 +9,27 @@ pub struct File<'a> {
     pub rules: &'a [[u8; 4]],
     pub schema: &'a [[u8; 4]],
     pub ending: &'a [u8],
+}
+
+impl File<'_> {
+    /// The file laid out as document 01 says: contents first, then the bodies. It is sound where its parts are.
+    pub fn bytes(&self) -> Vec<u8> {
+        let second = 16 + 4 * self.rules.len();
+        let third = second + 4 * self.schema.len();
+        let mut bytes = vec![self.names, self.nonterminals, self.states, 0];
+        for (offset, count) in [
+            (16, self.rules.len()),
+            (second, self.schema.len()),
+            (third, self.ending.len()),
+        ] {
+            bytes.extend((offset as u16).to_le_bytes());
+            bytes.extend((count as u16).to_le_bytes());
+        }
+        bytes.extend(self.rules.concat());
+        bytes.extend(self.schema.concat());
+        bytes.extend(self.ending);
+        bytes
+    }
 }
 
 /// A fault's place.

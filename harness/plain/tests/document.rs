@@ -1,5 +1,6 @@
 //! Document 01's cases: file K and "Both sides of each line".
 
+use plain::file::File;
 use plain::{check, fragment, join, net_depth, page, TABLE};
 
 const K: [u8; 45] = [
@@ -10,22 +11,17 @@ const K: [u8; 45] = [
 /// A file from its numbers and bodies, sorted as the file asks.
 fn file(head: [u8; 3], mut rules: Vec<[u8; 4]>, schema: &[[u8; 4]], ending: &[u8]) -> Vec<u8> {
     rules.sort();
-    let mut bytes = vec![head[0], head[1], head[2], 0];
-    let second = 16 + 4 * rules.len();
-    let third = second + 4 * schema.len();
-    let contents = [
-        (16, rules.len()),
-        (second, schema.len()),
-        (third, ending.len()),
-    ];
-    for (offset, count) in contents {
-        bytes.extend((offset as u16).to_le_bytes());
-        bytes.extend((count as u16).to_le_bytes());
+    let [names, nonterminals, states] = head;
+    let rules = &rules;
+    File {
+        names,
+        nonterminals,
+        states,
+        rules,
+        schema,
+        ending,
     }
-    bytes.extend(rules.concat());
-    bytes.extend(schema.concat());
-    bytes.extend(ending);
-    bytes
+    .bytes()
 }
 
 fn line(file: &[u8]) -> (u32, u64, u64) {

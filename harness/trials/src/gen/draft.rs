@@ -1,6 +1,8 @@
 //! A template file in the making. Writing it sorts the bodies and drops what is there twice or past
 //! the limits, so that every draft within its own numbers is a sound file.
 
+use plain::file::File;
+
 #[derive(Clone, Debug)]
 pub struct Draft {
     pub names: u8,
@@ -45,22 +47,15 @@ impl Draft {
 
 /// The file of a draft as it stands, sound or not.
 pub fn lay(draft: &Draft) -> Vec<u8> {
-    let (rules, schema, ending) = (&draft.rules, &draft.schema, &draft.ending);
-    let second = 16 + 4 * rules.len();
-    let third = second + 4 * schema.len();
-    let mut bytes = vec![draft.names, draft.nonterminals, draft.states, 0];
-    for (offset, count) in [
-        (16, rules.len()),
-        (second, schema.len()),
-        (third, ending.len()),
-    ] {
-        bytes.extend((offset as u16).to_le_bytes());
-        bytes.extend((count as u16).to_le_bytes());
+    File {
+        names: draft.names,
+        nonterminals: draft.nonterminals,
+        states: draft.states,
+        rules: &draft.rules,
+        schema: &draft.schema,
+        ending: &draft.ending,
     }
-    bytes.extend(rules.concat());
-    bytes.extend(schema.concat());
-    bytes.extend(ending);
-    bytes
+    .bytes()
 }
 
 fn ascending<T: Ord + Clone>(entries: &[T], most: usize) -> Vec<T> {
