@@ -68,19 +68,20 @@ module _ (marks lefts : ℕ) where
 module _ (rules : List ℕ) where
   -- ---- the same right side
 
-  pub same-test : (h i : ℕ)
-      → (((eqb (getD rules (h * 4 + 1) 0) (getD rules (i * 4 + 1) 0) && eqb (getD rules (h * 4 + 2) 0) (getD rules (i * 4 + 2) 0))
-      && eqb (getD rules (h * 4 + 3) 0) (getD rules (i * 4 + 3) 0)) ≡ true) ↔ SameRight rules h i
-  unfolding field
-  same-test h i =
-      let n = eqb (getD rules (h * 4 + 1) 0) (getD rules (i * 4 + 1) 0) in
-      let b = eqb (getD rules (h * 4 + 2) 0) (getD rules (i * 4 + 2) 0) in (
-        λ t.
-            let (s, d) = and-out (n && b) t in
-            let (p, q) = and-out n s in
-            (eqb-true _ _ p, eqb-true _ _ q, eqb-true _ _ d),
-        λ (p, q, d). rw (eq-eqb _ _ p, eq-eqb _ _ q, eq-eqb _ _ d),
-      )
+  -- by the fields that the test reads, in its order
+  module _ (h i : ℕ) where
+    pub first-differs : (getD rules (h * 4 + 2) 0 ≡ getD rules (i * 4 + 2) 0 → ⊥) → (false ≡ true) ↔ SameRight rules h i
+    unfolding field
+    first-differs d = (λ e. absurd (false≢true e), λ (n, b, c). absurd (d b))
+
+    pub second-differs : (getD rules (h * 4 + 3) 0 ≡ getD rules (i * 4 + 3) 0 → ⊥) → (false ≡ true) ↔ SameRight rules h i
+    unfolding field
+    second-differs d = (λ e. absurd (false≢true e), λ (n, b, c). absurd (d c))
+
+    pub length-tells : getD rules (h * 4 + 2) 0 ≡ getD rules (i * 4 + 2) 0 → getD rules (h * 4 + 3) 0 ≡ getD rules (i * 4 + 3) 0
+        → (eqb (getD rules (h * 4 + 1) 0) (getD rules (i * 4 + 1) 0) ≡ true) ↔ SameRight rules h i
+    unfolding field
+    length-tells b c = (λ t. (eqb-true _ _ t, b, c), λ (n, _, _). eq-eqb _ _ n)
 
   pub same-slots : (g i : ℕ) → SameRight rules g i
       → (leftSlot rules g ≡ leftSlot rules i) × (rightSlot rules g ≡ rightSlot rules i) × (rightSide rules g ≡ rightSide rules i)
@@ -221,7 +222,9 @@ pub ruleset shares = (
   with-unmarked,
   lefts-some,
   lefts-none,
-  same-test,
+  first-differs,
+  second-differs,
+  length-tells,
   left-small,
   gathered-none,
   gathered-other,

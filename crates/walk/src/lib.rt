@@ -119,7 +119,13 @@ fn same_right(rules: &[u8], h: usize, i: usize) -> bool
 {
     let a = h * 4;
     let b = i * 4;
-    (rules[a + 1] == rules[b + 1]) & (rules[a + 2] == rules[b + 2]) & (rules[a + 3] == rules[b + 3])
+    if rules[a + 2] != rules[b + 2] {
+        return false;
+    }
+    if rules[a + 3] != rules[b + 3] {
+        return false;
+    }
+    rules[a + 1] == rules[b + 1]
 }
 
 // The marks with x, where it is useful.

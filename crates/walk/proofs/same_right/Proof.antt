@@ -1,4 +1,4 @@
--- Three bytes of each rule are compared (ShareLaws). Assumes nothing.
+-- Field by field (ShareLaws). Assumes nothing.
 use Rattle.walk.proofs.ShareLaws.{shares}
 use Rattle.walk.proofs.same_right.Statement.{statement}
 use Rattle.walk.proofs.same_right.Tie as tie
@@ -8,6 +8,36 @@ mul-a c = search shares
 
 mul-b : tie.Need-mul-b
 mul-b c = search shares
+
+add-if1 : tie.Need-add-if1
+add-if1 c = search shares
+
+shared-slice-read-if1 : tie.Need-shared-slice-read-if1
+shared-slice-read-if1 c = search shares
+
+add-if1-2 : tie.Need-add-if1-2
+add-if1-2 c = search shares
+
+shared-slice-read-if1-2 : tie.Need-shared-slice-read-if1-2
+shared-slice-read-if1-2 c = search shares
+
+returns : tie.Need-returns
+returns c = search shares
+
+add-if2 : tie.Need-add-if2
+add-if2 c = search shares
+
+shared-slice-read-if2 : tie.Need-shared-slice-read-if2
+shared-slice-read-if2 c = search shares
+
+add-if2-2 : tie.Need-add-if2-2
+add-if2-2 c = search shares
+
+shared-slice-read-if2-2 : tie.Need-shared-slice-read-if2-2
+shared-slice-read-if2-2 c = search shares
+
+returns-2 : tie.Need-returns-2
+returns-2 c = search shares
 
 add-result : tie.Need-add-result
 add-result c = search shares
@@ -21,32 +51,8 @@ add-result-2 c = search shares
 shared-slice-read-result-2 : tie.Need-shared-slice-read-result-2
 shared-slice-read-result-2 c = search shares
 
-add-result-3 : tie.Need-add-result-3
-add-result-3 c = search shares
-
-shared-slice-read-result-3 : tie.Need-shared-slice-read-result-3
-shared-slice-read-result-3 c = search shares
-
-add-result-4 : tie.Need-add-result-4
-add-result-4 c = search shares
-
-shared-slice-read-result-4 : tie.Need-shared-slice-read-result-4
-shared-slice-read-result-4 c = search shares
-
-add-result-5 : tie.Need-add-result-5
-add-result-5 c = search shares
-
-shared-slice-read-result-5 : tie.Need-shared-slice-read-result-5
-shared-slice-read-result-5 c = search shares
-
-add-result-6 : tie.Need-add-result-6
-add-result-6 c = search shares
-
-shared-slice-read-result-6 : tie.Need-shared-slice-read-result-6
-shared-slice-read-result-6 c = search shares
-
-returns : tie.Need-returns
-returns c = search shares
+returns-3 : tie.Need-returns-3
+returns-3 c = search shares
 
 pub same-right-spec : {M : Type 1} → statement M
 same-right-spec =
@@ -54,16 +60,18 @@ same-right-spec =
     (tie.spec
     mul-a
     mul-b
+    add-if1
+    shared-slice-read-if1
+    add-if1-2
+    shared-slice-read-if1-2
+    returns
+    add-if2
+    shared-slice-read-if2
+    add-if2-2
+    shared-slice-read-if2-2
+    returns-2
     add-result
     shared-slice-read-result
     add-result-2
     shared-slice-read-result-2
-    add-result-3
-    shared-slice-read-result-3
-    add-result-4
-    shared-slice-read-result-4
-    add-result-5
-    shared-slice-read-result-5
-    add-result-6
-    shared-slice-read-result-6
-    returns)
+    returns-3)
