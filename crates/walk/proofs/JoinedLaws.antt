@@ -1,6 +1,6 @@
 -- One pair of choices more in the walk (VisitLaws.antt): where the two choices have forms, their join is an outcome of every nonterminal that
--- is marked for the rule, and it is noted or a mismatch (OutcomeLaws.antt); where one has none there is no pairing. So the walk stands at the next right choice, or it
--- stops at a mismatch. Assumes nothing.
+-- is marked for the rule, and it is noted or a mismatch (OutcomeLaws.antt); where one has none there is no pairing. So the walk stands at
+-- the next right choice, or it stops at a mismatch. Assumes nothing.
 use mathlib.Core.Path.{_≡_, refl}
 use mathlib.Core.Bool.{Bool, true}
 use mathlib.Core.List.{List}

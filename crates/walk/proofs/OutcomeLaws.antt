@@ -1,6 +1,7 @@
--- One outcome more in the walk (specs/Turns.antt, ProgressLaws.antt): a mismatch is an outcome of R; one that is too deep is noted; the
--- row of a form stands among the others, or finds no room, which is noted, or goes behind them. A row is decided by its pair, so that a
--- row that does not stand among the others is that of a pair that they do not have. Assumes nothing.
+-- One outcome more in the walk (specs/Turns.antt, ProgressLaws.antt), for every marked nonterminal: a mismatch is an outcome of R; one that
+-- is too deep is noted; the row of a form stands among the others, or finds no room, which is noted, or goes behind them, first for one
+-- nonterminal and then for all of them in turn. A row is decided by its pair, so that a row that does not stand among the others is that of
+-- a pair that they do not have. Assumes nothing.
 use mathlib.Core.Path.{_≡_, refl, sym, _∙_}
 use mathlib.Core.Bool.{Bool, true, false, _||_, false≢true}
 use mathlib.Core.List.{List, [], _∷_, _++_, Memᴰ·cast}

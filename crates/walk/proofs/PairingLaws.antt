@@ -1,6 +1,6 @@
 -- What the rules make of the rows below n (specs/Walks.antt), as the walk meets it: the first rule with the right side of a useful
--- nonterminal's rule, a choice of its left slot and one of its right, joined. The forms at the two places of a right side are the choices of its slots, and rows of proper pairs
--- have good forms, so that the results are the joins of pairs of forms (trees' PairLaws). Assumes nothing.
+-- nonterminal's rule, a choice of its left slot and one of its right, joined. The forms at the two places of a right side are the choices of
+-- its slots, and rows of proper pairs have good forms, so that the results are the joins of pairs of forms (trees' PairLaws). Assumes nothing.
 use mathlib.Core.Path.{_≡_, refl, sym, _∙_}
 use mathlib.Core.Bool.{Bool, true}
 use mathlib.Core.List.{List}

@@ -1,7 +1,7 @@
 -- Where the walk stands (specs/Walks.antt): at rule i, left choice j and right choice k it has seen every pairing of the rules before, of
--- rule i with the left choices before j, and of left choice j with the right choices before k. The end of a loop and the right choices
--- that are passed over each lead on: those are of a left choice that does not fit, or pair two old choices, whose outcome is settled; a
--- rule for which no nonterminal is marked has no pairings. Assumes nothing.
+-- rule i with the left choices before j, and of left choice j with the right choices before k. The end of a loop and the choices that are
+-- passed over each lead on: those are of a left choice that does not fit, or pair two old choices, whose outcome is settled; a rule for which
+-- no nonterminal is marked has no pairings. Assumes nothing.
 use mathlib.Core.Path.{_≡_, refl, sym, ap, _∙_}
 use mathlib.Core.Bool.{Bool, true, false, false≢true}
 use mathlib.Core.List.{List}
