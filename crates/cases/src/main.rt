@@ -108,7 +108,7 @@ fn join_fragments(file: &[u8], bytes: &[u8]) {
     if bytes.len() < 1 {
         return;
     }
-    let cut = 1 + words::wide(bytes[0]);
+    let cut = 1 + numbers::wide(bytes[0]);
     if bytes.len() < cut {
         return;
     }
@@ -147,8 +147,8 @@ fn summary_at(bytes: &[u8], at: usize) -> summary::Summary
     }
     relations[16] = relation_at(bytes, at + 146);
     summary::Summary {
-        ends: words::wide(bytes[at]),
-        starts: words::wide(bytes[at + 1]),
+        ends: numbers::wide(bytes[at]),
+        starts: numbers::wide(bytes[at + 1]),
         names: names,
         relations: relations,
     }
@@ -288,8 +288,8 @@ fn check_file(file: &[u8], bytes: &[u8]) {
     if bytes.len() < 5 {
         return;
     }
-    let budget = words::wide(bytes[0]) + 256 * words::wide(bytes[1]);
-    let len = words::wide(bytes[2]) + 256 * words::wide(bytes[3]);
+    let budget = numbers::wide(bytes[0]) + 256 * numbers::wide(bytes[1]);
+    let len = numbers::wide(bytes[2]) + 256 * numbers::wide(bytes[3]);
     let fill = long(bytes[4]);
     let mut table = blank();
     check_table(file, &mut table, len, budget, fill);
@@ -327,7 +327,7 @@ fn one(input: &[u8], c: Cursor) -> Cursor {
         return end;
     }
     let letter = input[at];
-    let len = words::wide(input[at + 1]) + 256 * words::wide(input[at + 2]);
+    let len = numbers::wide(input[at + 1]) + 256 * numbers::wide(input[at + 2]);
     let from = at + 3;
     if n - from < len {
         return end;

@@ -10,14 +10,16 @@ use lib.IntN.{ℤ, pos}
 use lib.ListN.{take}
 use Rattle.words.specs.Reduced.{tags, starts, ends, net}
 use Rattle.words.specs.Reader.{meet, step, then-tag, then-value, join, fit, limit}
-use Rattle.hedge.specs.Schema.{field}
-use Rattle.hedge.specs.Relation.{bit, has}
-use Rattle.hedge.specs.Operations.{any, same, linked, ended, onePair, fires, wrapped, number as digits, lowest, relation}
+use Rattle.numbers.specs.Fields.{field}
+use Rattle.numbers.specs.Bits.{bit}
+use Rattle.hedge.specs.Relation.{has}
+use Rattle.numbers.specs.Bits.{any, number as digits}
+use Rattle.hedge.specs.Operations.{same, linked, ended, onePair, fires, wrapped, lowest, relation}
 use Rattle.hedge.specs.Operations.{unit, compose, wrap, accepts}
 use Rattle.template.specs.Layout.{halfAt, partOf}
 use Rattle.template.specs.Order.{IsSound, firstFault, headTests, contentsTests, fieldTests, width, precedes, ascends}
 use Rattle.template.specs.Order.{entryTests, bodyTests, bodies, tests}
-use Rattle.stack.specs.Held.{tagAt, stackOf}
+use Rattle.form.specs.Held.{tagAt, stackOf}
 use Rattle.summary.specs.Packing.{count, form}
 use Rattle.summary.specs.Fragments.{FragmentSays}
 use Rattle.summary.specs.Joins.{SummaryUnder, JoinSays}

@@ -7,7 +7,7 @@ use Prim.Native.Nat.{ℕ, _≤_}
 use native.Mathlib.Omega.{arith}
 use lib.ListN.{length}
 use Rattle.template.specs.Order.{IsSound}
-use Rattle.summary.proofs.ShapeLaws.{sound-not-bad}
+use Rattle.template.proofs.ShapeLaws.{sound-not-bad}
 use Rattle.trees.specs.Verdict.{Decision, met, passed, used, Decides}
 use Rattle.trees.proofs.BudgetLaws.{met-not-passed, met-not-used, passed-not-used, decides-unique}
 use Rattle.rounds.specs.Checks.{EventOf, NewOf, HasPage, Rows, shown, zeroed, Lent, Decided, CheckSays}

@@ -19,7 +19,7 @@ use Rattle.summary.specs.declared.JoinAnswer.{JoinAnswer}
 use Rattle.summary.specs.declared.JoinAnswer.the-variants as joined
 use Rattle.summary.specs.declared.DepthReply.{DepthReply}
 use Rattle.summary.specs.declared.DepthReply.the-variants as depth
-use Rattle.summary.proofs.ShapeLaws.{sound-not-bad}
+use Rattle.template.proofs.ShapeLaws.{sound-not-bad}
 use Rattle.page.specs.Pages.{PageSays, answer as pageAnswer}
 use Rattle.page.specs.declared.PageReply.{PageReply}
 use Rattle.page.specs.declared.PageReply.the-variants as page

@@ -9,8 +9,8 @@ use lib.ListN.{length, drop, replicate}
 use Rattle.summary.specs.declared.Summary.{Summary}
 use Rattle.summary.specs.Packing.{zeros}
 use Rattle.summary.specs.Answers.{fragmentAnswer, joinAnswer}
-use Rattle.rows.specs.Packed.{bytesIn, packed}
-use Rattle.rows.proofs.PackedLaws.{packed-length}
+use Rattle.worktable.specs.Packed.{bytesIn, packed}
+use Rattle.worktable.proofs.PackedLaws.{packed-length}
 use Rattle.ujthanor.specs.LentRows.{rowOf, written}
 use Rattle.ujthanor.proofs.CallLaws.{Made, fragment-made, join-made}
 use Rattle.ujthanor.specs.Calls.{ShortRow, FragmentWritten, FragmentCalled, JoinWritten, JoinCalled}

@@ -1,6 +1,6 @@
 -- The struct of a reduced form as a computation: each tag is put behind the arrays' places in use, as the code does. It packs the form,
 -- where ends stand before starts and there are at most 16 tags: by induction along the tags, each step one law of the arrays
--- (stack/proofs/HeldLaws.antt). Assumes nothing.
+-- (form/proofs/HeldLaws.antt). Assumes nothing.
 use mathlib.Core.Path.{_≡_, refl, sym, ap, ap₂, _∙_}
 use Prim.Native.Nat.{ℕ, suc, _+_, _≤_, _<_}
 use native.Mathlib.Omega.{arith}
@@ -9,9 +9,9 @@ use lib.Seq.{getD-set-same}
 use Rattle.words.specs.Tags.{Tag, start, end}
 use Rattle.words.specs.Reduced.{Stack, bottom, push, OnlyEnds, EndsFirst, tags}
 use Rattle.words.proofs.ReducedLaws.{ends-first-below}
-use Rattle.stack.specs.Held.{stackOf}
-use Rattle.stack.proofs.HeldLaws.{stack-put-start, stack-put-end, unused-put, tags-held}
-use Rattle.stack.proofs.TagLaws.{holds-none}
+use Rattle.form.specs.Held.{stackOf}
+use Rattle.form.proofs.HeldLaws.{stack-put-start, stack-put-end, unused-put, tags-held}
+use Rattle.form.proofs.TagLaws.{holds-none}
 use Rattle.summary.specs.declared.Summary.{Summary}
 use Rattle.summary.specs.Packing.{count, form, last, Packs}
 use Rattle.summary.proofs.PackingLaws.{holds-packs}

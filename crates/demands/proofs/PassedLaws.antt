@@ -11,8 +11,8 @@ use Rattle.words.specs.Reduced.{Stack, Reduced}
 use Rattle.words.proofs.MismatchLaws.{one-of, balanced-not-mismatched}
 use Rattle.hedge.specs.Schema.{Valid}
 use Rattle.template.specs.Order.{IsSound}
-use Rattle.summary.specs.Fragments.{schemaOf, binoidOf}
-use Rattle.summary.proofs.ShapeLaws.{lawsOf}
+use Rattle.template.specs.Schemas.{schemaOf, binoidOf}
+use Rattle.template.proofs.ShapeLaws.{lawsOf}
 use Rattle.trees.specs.Events.{Pair}
 use Rattle.trees.specs.Verdict.{Decides, passed}
 use Rattle.trees.proofs.VerdictLaws.{pass-valid}

@@ -11,7 +11,7 @@ use Rattle.words.proofs.JoinLaws.{join-ends-first}
 use Rattle.words.proofs.LimitLaws.{Answers, limit-iff}
 use Rattle.template.specs.Layout.{names, endingStates}
 use Rattle.template.specs.Order.{IsSound}
-use Rattle.stack.proofs.HeldLaws.{ends-first-held}
+use Rattle.form.proofs.HeldLaws.{ends-first-held}
 use Rattle.reader.specs.Reads.{Found, whole, refused, no-tag, mismatch, too-many}
 use Rattle.reader.proofs.FormLaws.{form-unique}
 use Rattle.reader.proofs.ReadsLaws.{reads-finding, readable-whole}
@@ -22,9 +22,10 @@ use Rattle.summary.specs.declared.FragmentReply.{FragmentReply}
 use Rattle.summary.specs.declared.JoinAnswer.the-variants as joined
 use Rattle.summary.specs.declared.JoinReply.{JoinReply}
 use Rattle.summary.specs.Packing.{count, form, last, zeros}
-use Rattle.summary.specs.Fragments.{binoidOf, ReadUnder, FragmentSays}
+use Rattle.template.specs.Schemas.{binoidOf}
+use Rattle.summary.specs.Fragments.{ReadUnder, FragmentSays}
 use Rattle.summary.specs.Joins.{SummaryUnder, outcomeOf, JoinSays}
-use Rattle.summary.proofs.ShapeLaws.{lawsOf}
+use Rattle.template.proofs.ShapeLaws.{lawsOf}
 use Rattle.page.specs.declared.PageReply.{PageReply}
 use Rattle.page.specs.declared.PageReply.the-variants as page
 use Rattle.page.specs.Pages.{PageSays}

@@ -10,11 +10,11 @@ use lib.ListN.{length}
 use Rattle.trees.specs.Events.{Pair, Distinct, distinct-none, distinct-more}
 use Rattle.trees.specs.Verdict.{Quiet}
 use Rattle.trees.proofs.TableLaws.{rows-crowded}
-use Rattle.rows.specs.Tables.{Above, Ascending}
-use Rattle.rows.proofs.OrderLaws.{less-irrefl}
-use Rattle.rows.proofs.SortLaws.{first-less}
-use Rattle.rows.proofs.PackedLaws.{packed-length}
-use Rattle.rows.proofs.TableLaws.{Wide}
+use Rattle.worktable.specs.Tables.{Above, Ascending}
+use Rattle.worktable.proofs.OrderLaws.{less-irrefl}
+use Rattle.worktable.proofs.SortLaws.{first-less}
+use Rattle.worktable.proofs.PackedLaws.{packed-length}
+use Rattle.worktable.proofs.TableLaws.{Wide}
 use Rattle.rounds.specs.Checks.{PairRow, ImageOf, EventOf, NewOf, Rows}
 use Rattle.rounds.proofs.ListedLaws.{pair-one-row}
 

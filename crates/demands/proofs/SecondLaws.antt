@@ -16,9 +16,10 @@ use Rattle.summary.specs.declared.FragmentAnswer.{FragmentAnswer}
 use Rattle.summary.specs.declared.FragmentAnswer.the-variants as fragment
 use Rattle.summary.specs.declared.JoinAnswer.{JoinAnswer}
 use Rattle.summary.specs.declared.JoinAnswer.the-variants as joined
-use Rattle.summary.specs.Fragments.{binoidOf, ReadUnder, FragmentAnswers}
+use Rattle.template.specs.Schemas.{binoidOf}
+use Rattle.summary.specs.Fragments.{ReadUnder, FragmentAnswers}
 use Rattle.summary.specs.Answers.{fragmentAnswer, joinAnswer}
-use Rattle.summary.proofs.ShapeLaws.{lawsOf, sound-not-bad}
+use Rattle.template.proofs.ShapeLaws.{lawsOf, sound-not-bad}
 use Rattle.summary.proofs.MeaningLaws.{fragment-sound, fragment-summary-of, joined-iff, joined-summary-of, mismatch-iff, deep-iff}
 use Rattle.page.specs.declared.PageReply.{PageReply}
 use Rattle.page.specs.declared.PageReply.the-variants as page

@@ -7,8 +7,8 @@ use mathlib.Core.Logic.{_⊎_, inl, inr}
 use Prim.Native.Nat.{ℕ, _≤_}
 use native.Mathlib.Omega.{arith}
 use Rattle.hedge.specs.Schema.{Valid}
-use Rattle.summary.specs.Fragments.{schemaOf, binoidOf}
-use Rattle.summary.proofs.ShapeLaws.{lawsOf}
+use Rattle.template.specs.Schemas.{schemaOf, binoidOf}
+use Rattle.template.proofs.ShapeLaws.{lawsOf}
 use Rattle.trees.proofs.VerdictLaws.{invalid-broken, mismatch-broken}
 use Rattle.rounds.specs.Checks.{RuleOf, CheckSays}
 use Rattle.rounds.specs.Answers.{answer}

@@ -17,8 +17,9 @@ use Rattle.reader.specs.Reads.{Spelled, spelled-none, spelled-more, AllReadable
 use Rattle.reader.proofs.SpelledLaws.{spelled-split, spelled-unique}
 use Rattle.reader.proofs.FormLaws.{Because, refused-because, unspelled-word, form-of-word}
 use Rattle.reader.proofs.ReadsLaws.{reads-finding}
-use Rattle.summary.specs.Fragments.{schemaOf, binoidOf, ReadUnder}
-use Rattle.summary.proofs.ShapeLaws.{lawsOf, sound-not-bad}
+use Rattle.template.specs.Schemas.{schemaOf, binoidOf}
+use Rattle.summary.specs.Fragments.{ReadUnder}
+use Rattle.template.proofs.ShapeLaws.{lawsOf, sound-not-bad}
 use Rattle.words.proofs.MismatchLaws.{balanced-not-mismatched}
 use Rattle.page.specs.Pages.{PageSays, answer as pageAnswer}
 use Rattle.page.specs.declared.PageReply.{PageReply}

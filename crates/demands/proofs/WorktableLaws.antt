@@ -8,8 +8,8 @@ use native.Mathlib.Omega.{arith}
 use lib.ListN.{length, drop, replicate, length-append, length-drop, length-replicate}
 use lib.Seq.{drop-at}
 use Rattle.trees.specs.Verdict.{passed}
-use Rattle.rows.specs.Tables.{flat}
-use Rattle.rows.proofs.TableLaws.{Wide, flat-length}
+use Rattle.worktable.specs.Tables.{flat}
+use Rattle.worktable.proofs.TableLaws.{Wide, flat-length}
 use Rattle.rounds.specs.Checks.{Rows, shown, zeroed, Decided, CheckSays}
 use Rattle.rounds.specs.Answers.{answer}
 use Rattle.rounds.specs.declared.CheckReply.{CheckReply}

@@ -12,7 +12,8 @@ use Rattle.template.specs.Layout.{names}
 use Rattle.template.specs.Order.{IsSound}
 use Rattle.reader.specs.Reads.{Spelled, AllReadable}
 use Rattle.summary.specs.Packing.{Packs}
-use Rattle.summary.specs.Fragments.{schemaOf, binoidOf, FragmentSays}
+use Rattle.template.specs.Schemas.{schemaOf, binoidOf}
+use Rattle.summary.specs.Fragments.{FragmentSays}
 use Rattle.summary.specs.Joins.{JoinSays}
 use Rattle.summary.specs.Answers.{fragmentAnswer, joinAnswer}
 use Rattle.summary.specs.declared.Summary.{Summary}

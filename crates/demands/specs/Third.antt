@@ -9,7 +9,7 @@ use Rattle.hedge.specs.Schema.{Valid}
 use Rattle.template.specs.Layout.{names}
 use Rattle.template.specs.Order.{IsSound}
 use Rattle.reader.specs.Reads.{Spelled}
-use Rattle.summary.specs.Fragments.{schemaOf}
+use Rattle.template.specs.Schemas.{schemaOf}
 use Rattle.trees.specs.Trees.{Tree}
 use Rattle.trees.specs.Verdict.{met, passed, used, Decides}
 use Rattle.page.specs.Pages.{PageSays, answer as pageAnswer}

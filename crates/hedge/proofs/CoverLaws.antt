@@ -9,8 +9,8 @@ use lib.Dec.{ltb}
 use borrow.Author.Tests.{eqb-true, eq-eqb, ltb-true, lt-ltb}
 use Rattle.hedge.specs.Relation.{has, Within}
 use Rattle.hedge.specs.Operations.{below, full, covers}
-use Rattle.hedge.proofs.TestLaws.{and-out}
-use Rattle.hedge.proofs.BitLaws.{bit-or}
+use Rattle.numbers.proofs.TestLaws.{and-out}
+use Rattle.numbers.proofs.BitLaws.{bit-or}
 use Rattle.hedge.proofs.RelationLaws.{has-relation, relation-lt, relation-ext}
 
 pub below-members : (q x z : ℕ) → (below q x z ≡ true) ↔ ((x < q) × (z < q))

@@ -1,5 +1,3 @@
-pub mod BitLaws
-pub mod TestLaws
 pub mod SchemaLaws
 pub mod RelationLaws
 pub mod Relates

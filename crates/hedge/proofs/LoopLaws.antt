@@ -16,10 +16,12 @@ use mir.Syntax.{w64}
 use mir.Val.{Fits}
 use borrow.Author.Needs.{needs}
 use borrow.Author.Tests.{eq-eqb, ne-eqb}
-use Rattle.hedge.specs.Schema.{field, RulesBelow, EndsBelow}
+use Rattle.numbers.specs.Fields.{field}
+use Rattle.hedge.specs.Schema.{RulesBelow, EndsBelow}
 use Rattle.hedge.specs.Relation.{has}
-use Rattle.hedge.specs.Operations.{any, linked, ended, onePair, fires, wrapped, one-if, number, lowest, relation, unit, compose, wrap}
-use Rattle.hedge.proofs.BitLaws.{number-lt, number-more, shl-one, top-lt}
+use Rattle.numbers.specs.Bits.{any, one-if, number}
+use Rattle.hedge.specs.Operations.{linked, ended, onePair, fires, wrapped, lowest, relation, unit, compose, wrap}
+use Rattle.numbers.proofs.BitLaws.{number-lt, number-more, shl-one, top-lt}
 use Rattle.hedge.proofs.RelationLaws.{relation-cong, relation-none, relation-one, relation-or}
 use Rattle.hedge.proofs.UnitLaws.{unit-compose}
 

@@ -15,7 +15,7 @@ use Rattle.words.proofs.ValueLaws.{value-balanced, value-good}
 use Rattle.hedge.specs.Schema.{Schema, Derives, Valid, schema, RulesBelow, EndsBelow}
 use Rattle.hedge.specs.Relation.{has, RelationOf, Within}
 use Rattle.hedge.specs.Operations.{same, linked, wrapped, unit, compose, wrap, relations, accepts}
-use Rattle.hedge.proofs.TestLaws.{ext-true}
+use Rattle.numbers.proofs.TestLaws.{ext-true}
 use Rattle.hedge.proofs.RelationLaws.{relation-lt, relation-ext, ended-members, unit-members, compose-members, wrap-members}
 use Rattle.hedge.proofs.Relates.{Relates, relates-laws, value-relation, value-derived}
 

@@ -14,11 +14,13 @@ use lib.Bits.{bitOr}
 use lib.ListN.{length, getD}
 use lib.Pow.{pow-pos, pow-lt}
 use borrow.Author.Tests.{eqb-true, ltb-true, eq-eqb, lt-ltb}
-use Rattle.hedge.specs.Schema.{field, schema}
-use Rattle.hedge.specs.Relation.{bit, has}
+use Rattle.numbers.specs.Fields.{field}
+use Rattle.hedge.specs.Schema.{schema}
+use Rattle.numbers.specs.Bits.{bit}
+use Rattle.hedge.specs.Relation.{has}
 use Rattle.hedge.specs.Operations.{same, linked, ended, onePair, fires, wrapped, lowest, relation, unit, compose, wrap}
-use Rattle.hedge.proofs.TestLaws.{ext-true, and-out, any-in, any-out}
-use Rattle.hedge.proofs.BitLaws.{bit-number, number-lt, number-ext, number-or, bit-past, bit-pow}
+use Rattle.numbers.proofs.TestLaws.{ext-true, and-out, any-in, any-out}
+use Rattle.numbers.proofs.BitLaws.{bit-number, number-lt, number-ext, number-or, bit-past, bit-pow}
 
 -- ---- a relation and its number
 

@@ -8,10 +8,11 @@ use native.Mathlib.Decide.{decLt}
 use native.Mathlib.Omega.{arith}
 use lib.Arith.{digits-lt}
 use lib.Pow.{pow-pos, field, mod-mod-pow}
-use Rattle.hedge.specs.Relation.{bit, has}
+use Rattle.numbers.specs.Bits.{bit}
+use Rattle.hedge.specs.Relation.{has}
 use Rattle.hedge.specs.Operations.{linked, unit, compose}
-use Rattle.hedge.proofs.TestLaws.{ext-true}
-use Rattle.hedge.proofs.BitLaws.{digit-bit, bit-digit, bit-past}
+use Rattle.numbers.proofs.TestLaws.{ext-true}
+use Rattle.numbers.proofs.BitLaws.{digit-bit, bit-digit, bit-past}
 use Rattle.hedge.proofs.RelationLaws.{relation-lt, relation-ext, unit-members, compose-members}
 
 -- ---- bits of a remainder

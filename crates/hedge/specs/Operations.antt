@@ -1,20 +1,16 @@
 -- The binoid of relations. Document 01, "Reduced forms": "The empty string has each (X, X), X below Q. Strings in a row compose their
 -- relations. For start a, w, end a: (X, Z) is in it when a rule X, a, Y, Z exists and w's relation has (Y, W) with W ending. These are
 -- the source's binoid operations." Each is a test on pairs first, and then the number of the pairs that pass. K is the width of a row.
-use mathlib.Core.Bool.{Bool, true, false, _&&_, _||_}
+use mathlib.Core.Bool.{Bool, _&&_}
 use mathlib.Core.List.{List}
-use Prim.Native.Nat.{ℕ, zero, suc, _+_, _*_, _/_, _%_}
+use Prim.Native.Nat.{ℕ, _*_, _/_, _%_}
 use lib.Bits.{bitOr}
 use lib.Dec.{eqb, ltb}
 use lib.ListN.{length, getD}
 use Rattle.words.specs.Binoid.{Binoid}
-use Rattle.hedge.specs.Schema.{field}
+use Rattle.numbers.specs.Bits.{any, number}
+use Rattle.numbers.specs.Fields.{field}
 use Rattle.hedge.specs.Relation.{has}
-
--- some number below n passes
-unfoldable pub any : ℕ → (ℕ → Bool) → Bool
-any zero f = false
-any (suc n) f = any n f || f n
 
 -- ---- tests on pairs
 
@@ -44,15 +40,6 @@ unfoldable pub wrapped : List ℕ → List ℕ → ℕ → (ℕ → ℕ → Bool
 wrapped rules ends a f n x z = any n (λ i. fires rules ends a f i x z)
 
 -- ---- the number of the pairs that pass
-
-abbrev pub one-if : Bool → ℕ
-one-if true = 1
-one-if false = 0
-
--- the number below 2 ^ n whose bit k is f k
-unfoldable pub number : ℕ → (ℕ → Bool) → ℕ
-number zero f = 0
-number (suc n) f = number n (λ k. f (suc k)) * 2 + one-if (f 0)
 
 -- bit K·x+z is f x z: of the n lowest bits, and of all
 unfoldable pub lowest : ℕ → ℕ → (ℕ → ℕ → Bool) → ℕ

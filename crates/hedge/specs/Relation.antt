@@ -4,14 +4,10 @@ use mathlib.Core.Path.{_≡_}
 use mathlib.Core.Bool.{Bool, true}
 use mathlib.Core.List.{List}
 use mathlib.Core.Logic.{_↔_}
-use Prim.Native.Nat.{ℕ, _+_, _*_, _/_, _%_, _^_, _<_}
-use lib.Dec.{eqb}
+use Prim.Native.Nat.{ℕ, _+_, _*_, _^_, _<_}
+use Rattle.numbers.specs.Bits.{bit}
 use Rattle.words.specs.Tags.{Tag}
 use Rattle.hedge.specs.Schema.{Schema, Leads}
-
--- bit k of a number
-unfoldable pub bit : ℕ → ℕ → Bool
-bit r k = eqb (r / 2 ^ k % 2) 1
 
 -- the pair (x, z) is in the relation r
 unfoldable pub has : ℕ → ℕ → ℕ → ℕ → Bool

@@ -3,8 +3,9 @@
 -- string. A page is valid when it is balanced and state 0 derives it."
 use mathlib.Core.Path.{_≡_}
 use mathlib.Core.List.{List, [], _∷_, _++_}
-use Prim.Native.Nat.{ℕ, _+_, _*_, _/_, _<_}
+use Prim.Native.Nat.{ℕ, _/_, _<_}
 use lib.ListN.{length, getD}
+use Rattle.numbers.specs.Fields.{field}
 use Rattle.words.specs.Tags.{Tag, start, end}
 use Rattle.words.specs.Balance.{Balanced}
 
@@ -29,10 +30,6 @@ pub data Leads (S : Schema) : ℕ → List Tag → ℕ → Type 0 where
 -- "A page is valid when it is balanced and state 0 derives it."
 abbrev pub Valid : Schema → List Tag → Type 0
 Valid S w = Balanced w × Derives S 0 w
-
--- field j of rule i in a list of bytes, four to a rule: X, a, Y, Z
-unfoldable pub field : List ℕ → ℕ → ℕ → ℕ
-field rules i j = getD rules (i * 4 + j) 0
 
 -- the schema of a list of rules and a list of ending states
 abbrev pub schema : ℕ → List ℕ → List ℕ → Schema

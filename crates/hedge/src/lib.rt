@@ -4,9 +4,11 @@
 ghost use mathlib.Core.Path.{_≡_};
 ghost use Prim.Native.Nat.{_+_, _*_, _/_, _%_, _^_, _<_, _≤_};
 ghost use lib.ListN.{length};
-ghost use Rattle.hedge.specs.Schema.{field, RulesBelow, EndsBelow};
+ghost use Rattle.numbers.specs.Fields.{field};
+ghost use Rattle.hedge.specs.Schema.{RulesBelow, EndsBelow};
 ghost use Rattle.hedge.specs.Relation.{has};
-ghost use Rattle.hedge.specs.Operations.{one-if, linked, ended, fires, relation, unit, compose, wrap, accepts, onePair, full, covers};
+ghost use Rattle.numbers.specs.Bits.{one-if};
+ghost use Rattle.hedge.specs.Operations.{linked, ended, fires, relation, unit, compose, wrap, accepts, onePair, full, covers};
 
 // Does the relation have the pair (x, z)?
 fn has(r: u64, x: usize, z: usize) -> bool
@@ -94,15 +96,6 @@ pub fn follow(states: usize, empty: u64, left: u64, right: u64) -> u64
     compose(states, left, right)
 }
 
-// Field j of rule i, of four bytes; of a schema rule X, a, Y, Z.
-pub fn field(rules: &[u8], i: usize, j: usize) -> usize
-    requires { ⌜ i < length (now rules) / 4 ⌝ }
-    requires { ⌜ j < 4 ⌝ }
-    ensures { λ v. ⌜ (v ≡ field (now (rules .entry)) i j) × (v < 256) ⌝ }
-{
-    words::wide(rules[i * 4 + j])
-}
-
 // Does the relation lead from y to an ending state?
 fn ended(ends: &[u8], r: u64, y: usize) -> bool
     requires { ⌜ EndsBelow 8 (now ends) ⌝ }
@@ -112,7 +105,7 @@ fn ended(ends: &[u8], r: u64, y: usize) -> bool
     let mut t = false;
     let mut j = 0usize;
     while j < ends.len() {
-        t = t | has(r, y, words::wide(ends[j]));
+        t = t | has(r, y, numbers::wide(ends[j]));
         j += 1;
     }
     t
@@ -134,11 +127,11 @@ fn fired(rules: &[u8], ends: &[u8], name: u8, inner: u64, i: usize) -> u64
     requires { ⌜ i < length (now rules) / 4 ⌝ }
     ensures { λ s. ⌜ s ≡ relation 8 (fires (now (rules .entry)) (now (ends .entry)) name (has 8 inner) i) ⌝ }
 {
-    if field(rules, i, 1) != words::wide(name) {
+    if numbers::field(rules, i, 1) != numbers::wide(name) {
         return 0;
     }
-    let t = ended(ends, inner, field(rules, i, 2));
-    one_pair(t, field(rules, i, 0), field(rules, i, 3))
+    let t = ended(ends, inner, numbers::field(rules, i, 2));
+    one_pair(t, numbers::field(rules, i, 0), numbers::field(rules, i, 3))
 }
 
 // The relation of the element of this name around a word.

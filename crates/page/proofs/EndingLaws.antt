@@ -14,7 +14,8 @@ use Rattle.template.specs.Order.{reading}
 use Rattle.template.specs.declared.Reading.the-variants.{Sound}
 use Rattle.template.specs.declared.Shape.{Shape}
 use Rattle.summary.specs.declared.Summary.{Summary}
-use Rattle.summary.proofs.ShapeLaws.{endings-are, schooled}
+use Rattle.template.proofs.ShapeLaws.{endings-are}
+use Rattle.summary.proofs.ShapeLaws.{schooled}
 use Rattle.page.specs.declared.Balance.{Balance}
 use Rattle.page.specs.declared.Balance.the-variants as balance
 use Rattle.page.specs.declared.PageReply.the-variants as page

@@ -13,8 +13,9 @@ use Rattle.summary.specs.declared.Summary.{Summary}
 use Rattle.summary.specs.declared.FragmentAnswer.{FragmentAnswer}
 use Rattle.summary.specs.declared.FragmentAnswer.the-variants as fragment
 use Rattle.summary.specs.declared.FragmentReply.{FragmentReply}
-use Rattle.summary.specs.Fragments.{binoidOf, FragmentSays}
-use Rattle.summary.proofs.ShapeLaws.{lawsOf, sound-not-bad}
+use Rattle.template.specs.Schemas.{binoidOf}
+use Rattle.summary.specs.Fragments.{FragmentSays}
+use Rattle.template.proofs.ShapeLaws.{lawsOf, sound-not-bad}
 use Rattle.summary.proofs.UniqueLaws.{AnswersFound, FragmentCase, fragment-case}
 use Rattle.page.specs.declared.PageReply.{PageReply}
 use Rattle.page.specs.declared.PageReply.the-variants as page

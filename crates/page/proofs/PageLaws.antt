@@ -24,8 +24,8 @@ use Rattle.template.specs.Layout.{names, states, schemaRules, endingStates}
 use Rattle.template.specs.Order.{IsSound}
 use Rattle.template.proofs.SoundLaws.{sound-file}
 use Rattle.template.proofs.GrammarLaws.{schema-rules-below, endings-below}
-use Rattle.stack.specs.Held.{stackOf}
-use Rattle.stack.proofs.HeldLaws.{stack-none, tags-held}
+use Rattle.form.specs.Held.{stackOf}
+use Rattle.form.proofs.HeldLaws.{stack-none, tags-held}
 use Rattle.reader.specs.Reads.{Spelled, AllReadable}
 use Rattle.reader.proofs.ReadsLaws.{reads-finding}
 use Rattle.summary.specs.declared.Summary.{Summary}
@@ -33,8 +33,9 @@ use Rattle.summary.specs.declared.FragmentAnswer.{FragmentAnswer}
 use Rattle.summary.specs.declared.FragmentAnswer.the-variants as fragment
 use Rattle.summary.specs.declared.FragmentReply.{FragmentReply}
 use Rattle.summary.specs.Packing.{count, form, last}
-use Rattle.summary.specs.Fragments.{schemaOf, binoidOf, FragmentAnswers, FragmentSays}
-use Rattle.summary.proofs.ShapeLaws.{lawsOf, read-is}
+use Rattle.template.specs.Schemas.{schemaOf, binoidOf}
+use Rattle.summary.specs.Fragments.{FragmentAnswers, FragmentSays}
+use Rattle.template.proofs.ShapeLaws.{lawsOf, read-is}
 use Rattle.page.specs.declared.Balance.the-variants as balance
 use Rattle.page.specs.declared.PageReply.{PageReply}
 use Rattle.page.specs.declared.PageReply.the-variants as page

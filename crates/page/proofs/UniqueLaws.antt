@@ -13,8 +13,9 @@ use Rattle.template.specs.declared.Reading.the-variants.{Bad}
 use Rattle.reader.specs.Reads.{Found, whole, refused, no-tag, mismatch, too-many, Spelled, reads-all}
 use Rattle.reader.proofs.SpelledLaws.{spelled-unique}
 use Rattle.reader.proofs.ReadsLaws.{readable-whole, reads-unique}
-use Rattle.summary.specs.Fragments.{schemaOf, binoidOf, ReadUnder}
-use Rattle.summary.proofs.ShapeLaws.{lawsOf, sound-not-bad}
+use Rattle.template.specs.Schemas.{schemaOf, binoidOf}
+use Rattle.summary.specs.Fragments.{ReadUnder}
+use Rattle.template.proofs.ShapeLaws.{lawsOf, sound-not-bad}
 use Rattle.page.specs.declared.PageReply.{PageReply}
 use Rattle.page.specs.declared.PageReply.the-variants as page
 use Rattle.page.specs.Pages.{PageSays, ReadWhole}

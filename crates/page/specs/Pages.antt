@@ -11,7 +11,8 @@ use Rattle.template.specs.Layout.{names}
 use Rattle.template.specs.Order.{IsSound, reading}
 use Rattle.template.specs.declared.Reading.the-variants.{Bad}
 use Rattle.reader.specs.Reads.{Spelled, AllReadable, refused, no-tag, mismatch, too-many}
-use Rattle.summary.specs.Fragments.{schemaOf, binoidOf, ReadUnder}
+use Rattle.template.specs.Schemas.{schemaOf, binoidOf}
+use Rattle.summary.specs.Fragments.{ReadUnder}
 use Rattle.page.specs.declared.PageReply.{PageReply}
 use Rattle.page.specs.declared.PageReply.the-variants.{Valid, BadFile, NotATag, Mismatch, TooDeep, Unmatched, NotDerived}
 

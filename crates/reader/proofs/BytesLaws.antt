@@ -14,8 +14,8 @@ use Rattle.words.specs.Reader.{Limited, differs, too-deep}
 use Rattle.hedge.specs.Schema.{RulesBelow, EndsBelow}
 use Rattle.hedge.specs.Operations.{relations}
 use Rattle.hedge.proofs.NumberLaws.{relations-laws}
-use Rattle.stack.specs.Held.{stackOf, Holds}
-use Rattle.stack.specs.Steps.{Schooled, held, after-tag}
+use Rattle.form.specs.Held.{stackOf, Holds}
+use Rattle.form.specs.Steps.{Schooled, held, after-tag}
 use Rattle.reader.specs.Reads.{Reason, no-tag, mismatch, too-many, whole, refused}
 use Rattle.reader.specs.Reads.{Form, Refused, by-no-tag, AllReadable, Reads, reads-all, reads-to}
 use Rattle.reader.specs.Feeds.{Fed, Progressed}

@@ -9,10 +9,10 @@ use Rattle.words.specs.Reader.{Limited}
 use Rattle.words.specs.Classes.{Classed}
 use Rattle.words.specs.declared.Class.{Class}
 use Rattle.words.specs.declared.Class.the-variants.{Start, End, NoTag}
-use Rattle.stack.specs.Held.{tagOf}
-use Rattle.stack.specs.Steps.{outcome, Stepped}
-use Rattle.stack.specs.declared.Step.{Step}
-use Rattle.stack.specs.declared.Step.the-variants as step
+use Rattle.form.specs.Held.{tagOf}
+use Rattle.form.specs.Steps.{outcome, Stepped}
+use Rattle.form.specs.declared.Step.{Step}
+use Rattle.form.specs.declared.Step.the-variants as step
 use Rattle.reader.specs.Feeds.{feedOf, Fed}
 use Rattle.reader.specs.declared.Feed.{Feed}
 use Rattle.reader.specs.declared.Feed.the-variants as feed

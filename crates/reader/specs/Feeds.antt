@@ -1,4 +1,4 @@
--- What one byte more, and a run of bytes, leave in the arrays: the tag that a byte spells, stepped as stack/specs/Steps.antt says, and
+-- What one byte more, and a run of bytes, leave in the arrays: the tag that a byte spells, stepped as form/specs/Steps.antt says, and
 -- what reading finds as specs/Reads.antt says.
 use mathlib.Core.Path.{_≡_}
 use mathlib.Core.List.{List}
@@ -6,10 +6,10 @@ use Prim.Native.Nat.{ℕ, _+_}
 use lib.ListN.{getD}
 use Rattle.words.specs.Tags.{Tag, Spells}
 use Rattle.words.specs.Reader.{Limited, differs, too-deep}
-use Rattle.stack.specs.Held.{stackOf, Holds}
-use Rattle.stack.specs.Steps.{held}
-use Rattle.stack.specs.declared.Step.{Step}
-use Rattle.stack.specs.declared.Step.the-variants as step
+use Rattle.form.specs.Held.{stackOf, Holds}
+use Rattle.form.specs.Steps.{held}
+use Rattle.form.specs.declared.Step.{Step}
+use Rattle.form.specs.declared.Step.the-variants as step
 use Rattle.reader.specs.Reads.{Found, whole, refused, no-tag, mismatch, too-many}
 use Rattle.reader.specs.declared.Feed.{Feed}
 use Rattle.reader.specs.declared.Feed.the-variants as feed

@@ -4,8 +4,8 @@ ghost use mathlib.Core.Path.{_≡_};
 ghost use lib.ListN.{getD};
 ghost use Rattle.hedge.specs.Schema.{RulesBelow, EndsBelow};
 ghost use Rattle.hedge.specs.Operations.{relations};
-ghost use Rattle.stack.specs.Held.{Holds};
-ghost use Rattle.stack.specs.Steps.{Schooled, after-tag};
+ghost use Rattle.form.specs.Held.{Holds};
+ghost use Rattle.form.specs.Steps.{Schooled, after-tag};
 ghost use Rattle.reader.specs.Reads.{Reads};
 ghost use Rattle.reader.specs.Feeds.{feedOf, Fed, Progressed};
 
@@ -26,13 +26,13 @@ pub enum Progress {
 }
 
 // A tag's step as a byte's.
-fn fed(t: stack::Step) -> Feed
+fn fed(t: form::Step) -> Feed
     ensures { λ r. ⌜ r ≡ feedOf t ⌝ }
 {
     match t {
-        stack::Step::Kept(e, s) => Feed::Kept(e, s),
-        stack::Step::Mismatch(_, _) => Feed::Mismatch,
-        stack::Step::TooDeep => Feed::TooDeep,
+        form::Step::Kept(e, s) => Feed::Kept(e, s),
+        form::Step::Mismatch(_, _) => Feed::Mismatch,
+        form::Step::TooDeep => Feed::TooDeep,
     }
 }
 
@@ -58,7 +58,7 @@ pub fn then_byte(
     let class = words::class_of(known, byte);
     match class {
         words::Class::Start(a) => {
-            let t = stack::then_tag(
+            let t = form::then_tag(
                 schema,
                 endings,
                 states,
@@ -73,7 +73,7 @@ pub fn then_byte(
             fed(t)
         }
         words::Class::End(a) => {
-            let t = stack::then_tag(
+            let t = form::then_tag(
                 schema,
                 endings,
                 states,

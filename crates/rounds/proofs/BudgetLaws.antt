@@ -5,7 +5,7 @@ use mathlib.Core.List.{List}
 use Prim.Native.Nat.{ℕ, _≤_}
 use native.Mathlib.Omega.{arith}
 use Rattle.hedge.specs.Schema.{Valid}
-use Rattle.summary.specs.Fragments.{schemaOf, binoidOf}
+use Rattle.template.specs.Schemas.{schemaOf, binoidOf}
 use Rattle.trees.specs.Verdict.{Decision, met, passed, used}
 use Rattle.trees.proofs.BudgetLaws.{met-not-used, passed-not-used, decides-larger, decided-first}
 use Rattle.rounds.specs.declared.CheckReply.{CheckReply}

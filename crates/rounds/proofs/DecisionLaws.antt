@@ -8,10 +8,10 @@ use native.Mathlib.Decide.{decLt}
 use native.Mathlib.Omega.{arith}
 use Rattle.hedge.specs.Schema.{Valid}
 use Rattle.template.specs.Order.{IsSound}
-use Rattle.summary.specs.Fragments.{schemaOf, binoidOf}
+use Rattle.template.specs.Schemas.{schemaOf, binoidOf}
 use Rattle.trees.specs.Verdict.{Decision, Quiet, Decides, met, passed}
 use Rattle.trees.proofs.EventLaws.{no-event-below, no-event}
-use Rattle.turns.specs.declared.Notes.{Notes}
+use Rattle.pairs.specs.declared.Notes.{Notes}
 use Rattle.walk.specs.declared.Walk.the-variants.{Stopped, Went}
 use Rattle.rounds.specs.declared.Event.the-variants as told
 use Rattle.rounds.specs.Checks.{RuleOf, EventOf, NewOf}

@@ -8,9 +8,9 @@ use native.Mathlib.Omega.{arith}
 use lib.ListN.{length, drop}
 use Rattle.template.specs.Order.{IsSound}
 use Rattle.trees.specs.Verdict.{met}
-use Rattle.rows.specs.Tables.{rowsOf, tableOf, sorted, cleared}
-use Rattle.rows.proofs.PutLaws.{sorted-rows-length}
-use Rattle.turns.specs.declared.Notes.{Notes}
+use Rattle.worktable.specs.Tables.{rowsOf, tableOf, sorted, cleared}
+use Rattle.worktable.proofs.PutLaws.{sorted-rows-length}
+use Rattle.pairs.specs.declared.Notes.{Notes}
 use Rattle.walk.specs.declared.Walk.{Walk}
 use Rattle.walk.specs.declared.Walk.the-variants.{Stopped, Went}
 use Rattle.rounds.specs.declared.CheckReply.the-variants as check

@@ -18,8 +18,8 @@ use Rattle.template.specs.Layout.{states, templateRules, schemaRules, endingSta
 use Rattle.template.specs.Order.{IsSound}
 use Rattle.template.proofs.SoundLaws.{sound-file}
 use Rattle.template.proofs.GrammarLaws.{schema-rules-below, endings-below}
-use Rattle.summary.specs.Fragments.{schemaOf, binoidOf}
-use Rattle.summary.proofs.ShapeLaws.{lawsOf}
+use Rattle.template.specs.Schemas.{schemaOf, binoidOf}
+use Rattle.template.proofs.ShapeLaws.{lawsOf}
 use Rattle.walk.specs.Walks.{ValidForm}
 
 -- a page's form under the file

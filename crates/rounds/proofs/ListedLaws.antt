@@ -8,10 +8,11 @@ use native.Mathlib.Decide.{decLt}
 use native.Mathlib.Omega.{arith}
 use lib.ListN.{length}
 use Rattle.trees.specs.Events.{Pair, Distinct, distinct-none, distinct-more}
-use Rattle.rows.specs.Tables.{rowAt}
-use Rattle.rows.proofs.TableLaws.{Differing}
-use Rattle.rows.proofs.RowLaws.{row-pair, pair-row}
-use Rattle.turns.specs.Slots.{PairRow, Tabled}
+use Rattle.worktable.specs.Tables.{rowAt}
+use Rattle.worktable.proofs.TableLaws.{Differing}
+use Rattle.worktable.proofs.RowLaws.{row-pair, pair-row}
+use Rattle.worktable.specs.Packed.{PairRow}
+use Rattle.pairs.specs.Slots.{Tabled}
 use Rattle.walk.proofs.ProgressLaws.{tabled-later}
 
 -- a row packs one pair, and a pair has one row

@@ -8,7 +8,7 @@ use Prim.Native.Nat.{ℕ, _+_, _*_, _≤_}
 use native.Mathlib.Omega.{arith}
 use borrow.Author.Tests.{not-true, not-false}
 use Rattle.hedge.specs.Schema.{RulesBelow, EndsBelow}
-use Rattle.hedge.specs.Relation.{bit}
+use Rattle.numbers.specs.Bits.{bit}
 use Rattle.hedge.specs.Operations.{unit}
 use Rattle.template.specs.Layout.{states, partOf, templateRules, schemaRules, endingStates}
 use Rattle.template.specs.Grammar.{Gives}
@@ -16,8 +16,9 @@ use Rattle.template.specs.Order.{reading}
 use Rattle.template.specs.declared.Reading.the-variants.{Sound}
 use Rattle.template.specs.declared.Shape.{Shape}
 use Rattle.template.proofs.SoundLaws.{reading-sound, sound-file}
-use Rattle.stack.specs.Steps.{Schooled}
-use Rattle.summary.proofs.ShapeLaws.{shape-sound, states-are, states-few, rules-are, endings-are, rules-below, ends-below, schooled}
+use Rattle.form.specs.Steps.{Schooled}
+use Rattle.template.proofs.ShapeLaws.{shape-sound, states-are, states-few, rules-are, endings-are, rules-below, ends-below}
+use Rattle.summary.proofs.ShapeLaws.{schooled}
 use Rattle.trees.specs.Trees.{Useful, Reached}
 use Rattle.useful.specs.Marks.{Ruled, MarksAll, Fruitful}
 use Rattle.useful.proofs.UsefulLaws.{marks-useful, sound-ruled}

@@ -4,11 +4,11 @@ use mathlib.Core.Path.{_≡_, sym, subst}
 use mathlib.Core.List.{List}
 use Prim.Native.Nat.{ℕ, _*_, _≤_}
 use lib.ListN.{length, drop}
-use Rattle.rows.specs.Tables.{rowAt, rowsOf, tableOf, sorted, cleared}
-use Rattle.rows.proofs.TableLaws.{row-member, member-row}
-use Rattle.rows.proofs.PutLaws.{sorted-rows-length, sorted-keeps, sorted-only}
-use Rattle.rows.proofs.SortLaws.{rows-no-repeats, sorted-ascends}
-use Rattle.rows.proofs.ClearLaws.{sorted-cleared, whole-cleared}
+use Rattle.worktable.specs.Tables.{rowAt, rowsOf, tableOf, sorted, cleared}
+use Rattle.worktable.proofs.TableLaws.{row-member, member-row}
+use Rattle.worktable.proofs.PutLaws.{sorted-rows-length, sorted-keeps, sorted-only}
+use Rattle.worktable.proofs.SortLaws.{rows-no-repeats, sorted-ascends}
+use Rattle.worktable.proofs.ClearLaws.{sorted-cleared, whole-cleared}
 use Rattle.rounds.specs.Checks.{PairRow, Rows, shown, zeroed}
 use Rattle.rounds.specs.Walking.{TidyUnder}
 use Rattle.rounds.proofs.ResultLaws.{Holding}

@@ -8,13 +8,13 @@ use Rattle.words.specs.Reader.{Outcome, reduced, differ}
 use Rattle.hedge.specs.Schema.{Valid}
 use Rattle.template.specs.Layout.{states, templateRules, schemaRules, endingStates}
 use Rattle.template.specs.Order.{IsSound}
-use Rattle.summary.specs.Fragments.{schemaOf, binoidOf}
-use Rattle.summary.proofs.ShapeLaws.{lawsOf}
+use Rattle.template.specs.Schemas.{schemaOf, binoidOf}
+use Rattle.template.proofs.ShapeLaws.{lawsOf}
 use Rattle.trees.specs.Events.{Pair, Mismatch, InvalidPage, TooDeep, Crowded}
 use Rattle.trees.specs.Results.{Result}
 use Rattle.trees.specs.Verdict.{Quiet}
 use Rattle.trees.proofs.RoundLaws.{InvalidOutcome, result-same, next-image, next-mismatch, next-deep, next-invalid}
-use Rattle.turns.specs.Slots.{Tabled}
+use Rattle.pairs.specs.Slots.{Tabled}
 use Rattle.walk.specs.Walks.{ResultOver}
 use Rattle.rounds.specs.Checks.{RuleOf, ImageOf, EventOf, NewOf}
 use Rattle.rounds.proofs.FormLaws.{PageForm, valid-form, valid-balanced}

@@ -14,7 +14,7 @@ use Rattle.words.specs.Reader.{Outcome, reduced, differ}
 use Rattle.hedge.specs.Schema.{Valid}
 use Rattle.template.specs.Layout.{states, templateRules, schemaRules, endingStates}
 use Rattle.template.specs.Order.{IsSound}
-use Rattle.summary.specs.Fragments.{schemaOf, binoidOf}
+use Rattle.template.specs.Schemas.{schemaOf, binoidOf}
 use Rattle.trees.specs.Events.{Pair}
 use Rattle.trees.specs.Verdict.{Quiet, WentOn, Decides, used}
 use Rattle.trees.proofs.EventLaws.{image-none, event-none}

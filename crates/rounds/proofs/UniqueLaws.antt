@@ -8,10 +8,10 @@ use native.Mathlib.Omega.{arith}
 use lib.ListN.{length}
 use Rattle.template.specs.Order.{IsSound, reading}
 use Rattle.template.specs.declared.Reading.the-variants.{Bad}
-use Rattle.summary.proofs.ShapeLaws.{sound-not-bad}
+use Rattle.template.proofs.ShapeLaws.{sound-not-bad}
 use Rattle.trees.specs.Verdict.{Decision, met, passed, used, Decides}
 use Rattle.trees.proofs.BudgetLaws.{decides-unique}
-use Rattle.rows.proofs.SortLaws.{ascending-unique}
+use Rattle.worktable.proofs.SortLaws.{ascending-unique}
 use Rattle.rounds.specs.declared.CheckReply.{CheckReply}
 use Rattle.rounds.specs.declared.CheckReply.the-variants as check
 use Rattle.rounds.specs.Checks.{EventOf, NewOf, HasPage, Rows, shown, zeroed, Lent, Decided, CheckSays}

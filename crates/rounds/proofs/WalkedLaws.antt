@@ -17,10 +17,11 @@ use Rattle.trees.specs.Verdict.{Quiet}
 use Rattle.trees.proofs.EventLaws.{image-later}
 use Rattle.trees.proofs.RoundLaws.{InvalidOutcome}
 use Rattle.trees.proofs.TableLaws.{row-more-crowded, rows-not-crowded}
-use Rattle.rows.specs.Tables.{rowAt}
-use Rattle.turns.specs.Slots.{PairRow, Tabled}
+use Rattle.worktable.specs.Tables.{rowAt}
+use Rattle.worktable.specs.Packed.{PairRow}
+use Rattle.pairs.specs.Slots.{Tabled}
 use Rattle.walk.specs.Walks.{Grown, Happened, Noted}
-use Rattle.turns.specs.declared.Notes.{Notes}
+use Rattle.pairs.specs.declared.Notes.{Notes}
 use Rattle.walk.specs.declared.Walk.the-variants.{Stopped, Went}
 use Rattle.walk.proofs.ProgressLaws.{tabled-later}
 use Rattle.rounds.specs.Checks.{ImageOf, EventOf, NewOf}

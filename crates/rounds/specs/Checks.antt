@@ -11,12 +11,12 @@ use Rattle.template.specs.Layout.{templateRules}
 use Rattle.template.specs.Order.{IsSound, reading}
 use Rattle.template.specs.Grammar.{Symbol, nonterminal, Gives}
 use Rattle.template.specs.declared.Reading.the-variants.{Bad}
-use Rattle.summary.specs.Fragments.{schemaOf, binoidOf}
+use Rattle.template.specs.Schemas.{schemaOf, binoidOf}
 use Rattle.trees.specs.Trees.{Productive}
 use Rattle.trees.specs.Events.{Pair, Image, Event, New}
 use Rattle.trees.specs.Verdict.{Decision, met, passed, used, Decides}
-use Rattle.rows.specs.Tables.{flat, Ascending}
-pub use Rattle.turns.specs.Slots.{PairRow}
+use Rattle.worktable.specs.Tables.{flat, Ascending}
+pub use Rattle.worktable.specs.Packed.{PairRow}
 use Rattle.rounds.specs.declared.CheckReply.{CheckReply}
 use Rattle.rounds.specs.declared.CheckReply.the-variants as check
 

@@ -6,7 +6,7 @@ use mathlib.Core.List.{List}
 use Prim.Native.Nat.{ℕ}
 use Rattle.template.specs.Layout.{states, templateRules, schemaRules, endingStates}
 use Rattle.walk.specs.Walks.{Tidy, Ready, Walked}
-use Rattle.turns.specs.declared.Notes.{Notes}
+use Rattle.pairs.specs.declared.Notes.{Notes}
 use Rattle.walk.specs.declared.Walk.{Walk}
 use Rattle.rounds.specs.declared.Event.{Event}
 use Rattle.rounds.specs.declared.Event.the-variants.{Invalid, TooDeep, Crowded, Nothing}

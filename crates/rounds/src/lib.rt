@@ -5,7 +5,7 @@ ghost use lib.ListN.{length};
 ghost use Rattle.template.specs.Order.{reading};
 ghost use Rattle.template.specs.declared.Reading.the-variants.{Sound};
 ghost use Rattle.trees.specs.Trees.{Useful};
-ghost use Rattle.rows.specs.Tables.{cleared};
+ghost use Rattle.worktable.specs.Tables.{cleared};
 ghost use Rattle.useful.specs.Marks.{MarksAll};
 ghost use Rattle.rounds.specs.Walking.{TidyUnder, ReadyUnder, WalkedUnder, Tells};
 ghost use Rattle.rounds.specs.Checks.{RuleOf, HasPage, Lent, CheckSays};
@@ -34,7 +34,7 @@ pub enum Event {
 }
 
 // The event that the notes of a walk tell.
-fn event_of(notes: turns::Notes) -> Event
+fn event_of(notes: pairs::Notes) -> Event
     ensures { λ r. ⌜ Tells notes r ⌝ }
 {
     if notes.invalid {
@@ -68,7 +68,7 @@ fn one_round(
     let rules = template::template_rules(file, shape.templates);
     let schema = template::schema_rules(file, shape.templates, shape.schema);
     let endings = template::ending_states(file, shape.templates, shape.schema, shape.endings);
-    let states = words::wide(shape.states);
+    let states = numbers::wide(shape.states);
     let empty = hedge::unit(states);
     walk::walk_round(
         rules,
@@ -89,7 +89,7 @@ fn wipe(table: &mut [u64])
     requires { ⌜ 5120 ≤ length (now table) ⌝ }
     ensures { λ r. ⌜ now (table .exit) ≡ cleared (now (table .entry)) 0 5120 ⌝ }
 {
-    rows::clear(table, 0, 5120);
+    worktable::clear(table, 0, 5120);
 }
 
 // Rounds until one decides or the budget is used.
@@ -132,8 +132,8 @@ fn rounds(
             }
             Event::Nothing => {
                 if m == n {
-                    rows::sort(table, n);
-                    rows::clear(table, n * 20, 5120);
+                    worktable::sort(table, n);
+                    worktable::clear(table, n * 20, 5120);
                     return CheckReply::Passed(r, n);
                 }
             }

@@ -12,7 +12,7 @@ use lib.Dec.{eqb, ltb, leb}
 use lib.ListN.{getD}
 use borrow.Author.Needs.{needs}
 use Rattle.hedge.specs.Operations.{covers}
-use Rattle.hedge.proofs.TestLaws.{and-out}
+use Rattle.numbers.proofs.TestLaws.{and-out}
 use Rattle.summary.specs.Packing.{every, nameFits, valueFits}
 
 -- ---- the loop

@@ -19,8 +19,9 @@ use Rattle.summary.specs.declared.FragmentReply.{FragmentReply}
 use Rattle.summary.specs.Packing.{zeros}
 use Rattle.summary.specs.Fragments.{ReadUnder, FragmentAnswers, FragmentSays}
 use Rattle.summary.proofs.PackingLaws.{holds-packs}
-use Rattle.summary.proofs.ShapeLaws.{read-is, shape-sound, names-are, states-are, states-few, rules-are, endings-are}
-use Rattle.summary.proofs.ShapeLaws.{rules-below, ends-below, schooled}
+use Rattle.template.proofs.ShapeLaws.{read-is, shape-sound, names-are, states-are, states-few, rules-are, endings-are}
+use Rattle.template.proofs.ShapeLaws.{rules-below, ends-below}
+use Rattle.summary.proofs.ShapeLaws.{schooled}
 
 -- a reply that says why it refused
 

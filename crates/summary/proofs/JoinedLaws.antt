@@ -11,20 +11,21 @@ use Rattle.template.specs.Layout.{states, partOf, schemaRules, endingStates}
 use Rattle.template.specs.Order.{IsSound, reading}
 use Rattle.template.specs.declared.Reading.the-variants.{Sound, Bad}
 use Rattle.template.specs.declared.Shape.{Shape}
-use Rattle.stack.specs.Held.{Holds}
-use Rattle.stack.specs.Steps.{Stepped, outcome, after-form}
-use Rattle.stack.specs.declared.Step.{Step}
-use Rattle.stack.specs.declared.Step.the-variants as step
-use Rattle.stack.proofs.FormLaws.{form-limit}
+use Rattle.form.specs.Held.{Holds}
+use Rattle.form.specs.Steps.{Stepped, outcome, after-form}
+use Rattle.form.specs.declared.Step.{Step}
+use Rattle.form.specs.declared.Step.the-variants as step
+use Rattle.form.proofs.FormLaws.{form-limit}
 use Rattle.summary.specs.declared.Summary.{Summary}
 use Rattle.summary.specs.declared.JoinAnswer.{JoinAnswer}
 use Rattle.summary.specs.declared.JoinAnswer.the-variants.{Joined, BadFile, NoSummary, Mismatch, TooDeep}
 use Rattle.summary.specs.declared.JoinReply.{JoinReply}
 use Rattle.summary.specs.Packing.{zeros}
-use Rattle.summary.specs.Fragments.{binoidOf}
+use Rattle.template.specs.Schemas.{binoidOf}
 use Rattle.summary.specs.Joins.{SummaryUnder, BothSummaries, outcomeOf, JoinAnswers, JoinSays}
 use Rattle.summary.proofs.PackingLaws.{holds-packs}
-use Rattle.summary.proofs.ShapeLaws.{shape-sound, states-are, states-few, rules-are, endings-are, schooled}
+use Rattle.template.proofs.ShapeLaws.{shape-sound, states-are, states-few, rules-are, endings-are}
+use Rattle.summary.proofs.ShapeLaws.{schooled}
 
 -- a summary in the arrays
 

@@ -25,10 +25,11 @@ use Rattle.summary.specs.declared.JoinAnswer.{JoinAnswer}
 use Rattle.summary.specs.declared.JoinAnswer.the-variants.{Joined, BadFile, NoSummary, Mismatch, TooDeep}
 use Rattle.summary.specs.declared.JoinReply.{JoinReply}
 use Rattle.summary.specs.Packing.{form, last, Packs}
-use Rattle.summary.specs.Fragments.{binoidOf, FragmentAnswers, FragmentSays}
+use Rattle.template.specs.Schemas.{binoidOf}
+use Rattle.summary.specs.Fragments.{FragmentAnswers, FragmentSays}
 use Rattle.summary.specs.Joins.{SummaryUnder, JoinAnswers, JoinSays}
 use Rattle.summary.proofs.PackingLaws.{packs-own}
-use Rattle.summary.proofs.ShapeLaws.{lawsOf, sound-not-bad}
+use Rattle.template.proofs.ShapeLaws.{lawsOf, sound-not-bad}
 use Rattle.summary.proofs.UniqueLaws.{packs-unique}
 use Rattle.summary.proofs.NamedLaws.{WordBelow, word-append, spelled-below, reduced-below, joined-below}
 use Rattle.summary.proofs.PlaceLaws.{packed-summary, summary-below, summary-good}

@@ -9,13 +9,13 @@ use native.Mathlib.Omega.{arith}
 use lib.IntN.{ℤ, pos, negsuc, negℤ, _+ℤ_, _-ℤ_}
 use Rattle.words.specs.Reduced.{net}
 use Rattle.words.proofs.DepthLaws.{net-join}
-use Rattle.stack.proofs.HeldLaws.{net-held}
+use Rattle.form.proofs.HeldLaws.{net-held}
 use Rattle.summary.specs.declared.Summary.{Summary}
 use Rattle.summary.specs.declared.JoinAnswer.the-variants.{Joined}
 use Rattle.summary.specs.declared.JoinReply.{JoinReply}
 use Rattle.summary.specs.declared.DepthReply.the-variants.{Net}
 use Rattle.summary.specs.Packing.{form, last}
-use Rattle.summary.specs.Fragments.{binoidOf}
+use Rattle.template.specs.Schemas.{binoidOf}
 use Rattle.summary.specs.Joins.{JoinAnswers, JoinSays, DepthSays}
 use Rattle.summary.proofs.SignedLaws.{difference-up, difference-down}
 

@@ -14,7 +14,7 @@ use Rattle.words.specs.Reduced.{Stack}
 use Rattle.hedge.specs.Relation.{Within}
 use Rattle.hedge.specs.Operations.{full}
 use Rattle.hedge.proofs.CoverLaws.{covers-within}
-use Rattle.stack.specs.Held.{stackOf, Holds}
+use Rattle.form.specs.Held.{stackOf, Holds}
 use Rattle.summary.specs.declared.Summary.{Summary}
 use Rattle.summary.specs.Packing.{count, form, last, Packs, IsSummary, every, nameFits, valueFits, Small}
 use Rattle.summary.proofs.FitLaws.{every-in, every-out}

@@ -13,7 +13,7 @@ use Rattle.words.specs.Reduced.{Stack}
 use Rattle.words.proofs.ReducedLaws.{GoodStack}
 use Rattle.hedge.specs.Relation.{Within}
 use Rattle.template.proofs.GrammarLaws.{TagBelow}
-use Rattle.stack.specs.Held.{tagOf, tagAt, stackOf}
+use Rattle.form.specs.Held.{tagOf, tagAt, stackOf}
 use Rattle.summary.specs.declared.Summary.{Summary}
 use Rattle.summary.specs.Packing.{count, form, last, Packs, IsSummary}
 use Rattle.summary.proofs.NamedLaws.{FormBelow}

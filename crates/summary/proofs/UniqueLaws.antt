@@ -11,7 +11,7 @@ use Rattle.words.specs.Reader.{Outcome, reduced, differ}
 use Rattle.template.specs.Layout.{names}
 use Rattle.template.specs.Order.{IsSound, reading}
 use Rattle.template.specs.declared.Reading.the-variants.{Bad}
-use Rattle.stack.proofs.PackLaws.{pack-unique}
+use Rattle.form.proofs.PackLaws.{pack-unique}
 use Rattle.reader.specs.Reads.{Found, whole, refused, no-tag, mismatch, too-many}
 use Rattle.reader.proofs.ReadsLaws.{reads-unique}
 use Rattle.summary.specs.declared.Summary.{Summary}
@@ -24,9 +24,10 @@ use Rattle.summary.specs.declared.JoinReply.{JoinReply}
 use Rattle.summary.specs.declared.DepthReply.{DepthReply}
 use Rattle.summary.specs.declared.DepthReply.the-variants as depth
 use Rattle.summary.specs.Packing.{Packs, zeros}
-use Rattle.summary.specs.Fragments.{binoidOf, ReadUnder, FragmentAnswers, FragmentSays}
+use Rattle.template.specs.Schemas.{binoidOf}
+use Rattle.summary.specs.Fragments.{ReadUnder, FragmentAnswers, FragmentSays}
 use Rattle.summary.specs.Joins.{SummaryUnder, outcomeOf, JoinAnswers, JoinSays, DepthSays}
-use Rattle.summary.proofs.ShapeLaws.{lawsOf, sound-not-bad}
+use Rattle.template.proofs.ShapeLaws.{lawsOf, sound-not-bad}
 
 -- ---- one summary of a form, one place of a bad file
 

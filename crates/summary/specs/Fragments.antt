@@ -3,11 +3,9 @@
 use mathlib.Core.Path.{_≡_}
 use mathlib.Core.List.{List}
 use Prim.Native.Nat.{ℕ}
-use Rattle.words.specs.Binoid.{Binoid}
 use Rattle.words.specs.Reduced.{Stack}
-use Rattle.hedge.specs.Schema.{Schema, schema}
-use Rattle.hedge.specs.Operations.{relations}
-use Rattle.template.specs.Layout.{names, states, schemaRules, endingStates}
+use Rattle.template.specs.Layout.{names}
+use Rattle.template.specs.Schemas.{binoidOf}
 use Rattle.template.specs.Order.{IsSound, reading}
 use Rattle.template.specs.declared.Reading.the-variants.{Bad}
 use Rattle.summary.specs.declared.Summary.{Summary}
@@ -16,13 +14,6 @@ use Rattle.summary.specs.declared.FragmentAnswer.the-variants.{Summarise
 use Rattle.summary.specs.declared.FragmentReply.{FragmentReply}
 use Rattle.summary.specs.Packing.{Packs, zeros}
 use Rattle.reader.specs.Reads.{Reads, Found, whole, refused, no-tag, mismatch, too-many}
-
--- the schema of a file, and the binoid of its relations
-abbrev pub schemaOf : List ℕ → Schema
-schemaOf f = schema (states f) (schemaRules f) (endingStates f)
-
-abbrev pub binoidOf : List ℕ → Binoid
-binoidOf f = relations 8 (states f) (schemaRules f) (endingStates f)
 
 -- what reading the bytes under the file finds
 abbrev pub ReadUnder : List ℕ → List ℕ → Found ℕ → Type 0

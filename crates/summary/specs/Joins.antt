@@ -15,7 +15,7 @@ use Rattle.summary.specs.declared.JoinReply.{JoinReply}
 use Rattle.summary.specs.declared.DepthReply.{DepthReply}
 use Rattle.summary.specs.declared.DepthReply.the-variants as depth
 use Rattle.summary.specs.Packing.{form, last, Packs, IsSummary, zeros}
-use Rattle.summary.specs.Fragments.{binoidOf}
+use Rattle.template.specs.Schemas.{binoidOf}
 
 -- a summary under the file
 abbrev pub SummaryUnder : List ℕ → Summary → Type 0

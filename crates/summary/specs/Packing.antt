@@ -10,7 +10,7 @@ use lib.ListN.{length, getD, replicate}
 use Rattle.words.specs.Reduced.{Stack}
 use Rattle.hedge.specs.Relation.{Within}
 use Rattle.hedge.specs.Operations.{covers}
-use Rattle.stack.specs.Held.{stackOf, Unused}
+use Rattle.form.specs.Held.{stackOf, Unused}
 use Rattle.summary.specs.declared.Summary.{Summary}
 
 -- how many tags, the tags with the relation before each, and the last relation

@@ -90,7 +90,7 @@ pub fn summarise(file: &[u8], shape: template::Shape, bytes: &[u8]) -> FragmentR
 {
     let schema = template::schema_rules(file, shape.templates, shape.schema);
     let endings = template::ending_states(file, shape.templates, shape.schema, shape.endings);
-    let states = words::wide(shape.states);
+    let states = numbers::wide(shape.states);
     let empty = hedge::unit(states);
     let mut names = [0u8; 16];
     let mut values = [0u64; 17];
@@ -219,14 +219,14 @@ fn join_summaries(file: &[u8], shape: template::Shape, left: Summary, right: Sum
 {
     let schema = template::schema_rules(file, shape.templates, shape.schema);
     let endings = template::ending_states(file, shape.templates, shape.schema, shape.endings);
-    let states = words::wide(shape.states);
+    let states = numbers::wide(shape.states);
     let empty = hedge::unit(states);
     let mut names = left.names;
     let mut values = left.relations;
     let tags = right.names;
     let relations = right.relations;
     let n = right.ends + right.starts;
-    let t = stack::then_form(
+    let t = form::then_form(
         schema,
         endings,
         states,
@@ -241,7 +241,7 @@ fn join_summaries(file: &[u8], shape: template::Shape, left: Summary, right: Sum
         n,
     );
     match t {
-        stack::Step::Kept(e, s) => JoinReply {
+        form::Step::Kept(e, s) => JoinReply {
             answer: JoinAnswer::Joined,
             summary: Summary {
                 ends: e,
@@ -250,8 +250,8 @@ fn join_summaries(file: &[u8], shape: template::Shape, left: Summary, right: Sum
                 relations: values,
             },
         },
-        stack::Step::Mismatch(_, _) => join_refused(JoinAnswer::Mismatch),
-        stack::Step::TooDeep => join_refused(JoinAnswer::TooDeep),
+        form::Step::Mismatch(_, _) => join_refused(JoinAnswer::Mismatch),
+        form::Step::TooDeep => join_refused(JoinAnswer::TooDeep),
     }
 }
 
@@ -263,10 +263,10 @@ pub fn join(file: &[u8], left: Summary, right: Summary) -> JoinReply
     match r {
         template::Reading::Bad(p) => join_refused(JoinAnswer::BadFile(p)),
         template::Reading::Sound(shape) => {
-            if !is_summary(left, shape.names, words::wide(shape.states)) {
+            if !is_summary(left, shape.names, numbers::wide(shape.states)) {
                 return join_refused(JoinAnswer::NoSummary);
             }
-            if !is_summary(right, shape.names, words::wide(shape.states)) {
+            if !is_summary(right, shape.names, numbers::wide(shape.states)) {
                 return join_refused(JoinAnswer::NoSummary);
             }
             join_summaries(file, shape, left, right)
@@ -290,7 +290,7 @@ pub fn net_depth(file: &[u8], s: Summary) -> DepthReply
     match r {
         template::Reading::Bad(p) => DepthReply::BadFile(p),
         template::Reading::Sound(shape) => {
-            if !is_summary(s, shape.names, words::wide(shape.states)) {
+            if !is_summary(s, shape.names, numbers::wide(shape.states)) {
                 return DepthReply::NoSummary;
             }
             DepthReply::Net(difference(s.starts, s.ends))

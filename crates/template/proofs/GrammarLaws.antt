@@ -13,13 +13,14 @@ use lib.Dec.{ltb, leb}
 use lib.ListN.{length, take, length-map, length-take}
 use borrow.Author.Tests.{ltb-true, leb-true, lt-ltb, le-ltb}
 use Rattle.words.specs.Tags.{Tag, start, end}
-use Rattle.hedge.specs.Schema.{field, RulesBelow, EndsBelow}
+use Rattle.numbers.specs.Fields.{field}
+use Rattle.hedge.specs.Schema.{RulesBelow, EndsBelow}
 use Rattle.template.specs.Layout.{byteAt, names, nonterminals, states, ruleCount, schemaCount, endingCount}
 use Rattle.template.specs.Layout.{schemaStart, endingStart, templateRules, schemaRules, endingStates}
 use Rattle.template.specs.Order.{isSymbol, symbolHolds, fieldTests, width}
 use Rattle.template.specs.Grammar.{Symbol, tag, nonterminal, symbolOf, rightSide, Gives}
 use Rattle.template.specs.declared.Body.the-variants.{Templates, Schema, Endings}
-use Rattle.hedge.proofs.TestLaws.{and-out, or-out}
+use Rattle.numbers.proofs.TestLaws.{and-out, or-out}
 use Rattle.template.proofs.SoundLaws.{SoundFile}
 use Rattle.template.proofs.ListLaws.{rules-count, schema-rules-count, endings-length, rules-field, schema-rules-field, endings-at}
 use Rattle.template.proofs.EntryLaws.{fields-hold}

@@ -7,3 +7,4 @@ pub mod SoundLaws
 pub mod ListLaws
 pub mod EntryLaws
 pub mod GrammarLaws
+pub mod ShapeLaws

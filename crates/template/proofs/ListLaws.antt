@@ -8,7 +8,7 @@ use native.Mathlib.Omega.{arith}
 use lib.ListN.{length, getD, take, drop, length-drop}
 use lib.Seq.{length-take-le, getD-take, getD-drop, take-take, drop-drop}
 use borrow.Author.Tests.{le-leb}
-use Rattle.hedge.specs.Schema.{field}
+use Rattle.numbers.specs.Fields.{field}
 use Rattle.template.specs.Layout.{byteAt, ruleCount, schemaCount, endingCount}
 use Rattle.template.specs.Layout.{schemaStart, endingStart, partOf, templateRules, schemaRules, endingStates}
 use Rattle.template.proofs.SoundLaws.{SoundFile}

@@ -18,7 +18,7 @@ use Rattle.template.specs.declared.Body.the-variants.{Templates, Schema,
 use Rattle.template.specs.declared.Reading.the-variants.{Sound}
 use Rattle.template.specs.declared.Shape.{Shape}
 use Rattle.template.proofs.OrderLaws.{nowhere-holds, first-append-nowhere, nowhere-append}
-use Rattle.hedge.proofs.TestLaws.{and-out}
+use Rattle.numbers.proofs.TestLaws.{and-out}
 
 -- what reading answers
 

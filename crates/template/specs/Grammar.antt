@@ -8,7 +8,7 @@ use Prim.Native.Nat.{ℕ, _/_, _-_, _<_}
 use lib.Dec.{ltb}
 use lib.ListN.{length, take}
 use Rattle.words.specs.Tags.{Tag, start, end}
-use Rattle.hedge.specs.Schema.{field}
+use Rattle.numbers.specs.Fields.{field}
 
 -- a tag or a nonterminal
 pub data Symbol : Type 0 where

@@ -1,3 +1,4 @@
 pub mod Layout
 pub mod Order
 pub mod Grammar
+pub mod Schemas

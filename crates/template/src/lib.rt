@@ -47,7 +47,7 @@ fn half(file: &[u8], at: usize) -> u16
     requires { ⌜ at + 1 < length (now file) ⌝ }
     ensures { λ r. ⌜ r ≡ halfAt (now (file .entry)) at ⌝ }
 {
-    (words::wide(file[at]) + 256 * words::wide(file[at + 1])) as u16
+    (numbers::wide(file[at]) + 256 * numbers::wide(file[at + 1])) as u16
 }
 
 // One test more in the order of reading: an earlier fault stays.
@@ -90,7 +90,7 @@ fn contents_fault(file: &[u8]) -> Fault
     requires { ⌜ 16 ≤ length (now file) ⌝ }
     ensures { λ r. ⌜ r ≡ firstFault (contentsTests (now (file .entry))) ⌝ }
 {
-    let states = words::wide(file[2]);
+    let states = numbers::wide(file[2]);
     let first = wide_half(half(file, 4));
     let rules = wide_half(half(file, 6));
     let second = wide_half(half(file, 8));
@@ -113,10 +113,10 @@ fn contents_fault(file: &[u8]) -> Fault
 fn is_symbol(names: u8, nonterminals: u8, byte: u8) -> bool
     ensures { λ r. ⌜ r ≡ isSymbol names nonterminals byte ⌝ }
 {
-    let b = words::wide(byte);
+    let b = numbers::wide(byte);
     (byte < names)
-        | ((32 <= b) & (b < 32 + words::wide(names)))
-        | ((64 <= b) & (b < 64 + words::wide(nonterminals)))
+        | ((32 <= b) & (b < 32 + numbers::wide(names)))
+        | ((64 <= b) & (b < 64 + numbers::wide(nonterminals)))
 }
 
 // A used place holds a symbol, an unused one 255.

@@ -6,8 +6,8 @@ use Prim.Native.Nat.{ℕ}
 use lib.ListN.{length, drop}
 use borrow.Author.Needs.{needs}
 use Rattle.summary.specs.declared.Summary.{Summary}
-use Rattle.rows.specs.Tables.{rowsOf, tableOf, flat}
-use Rattle.rows.specs.Packed.{nonterminalIn, endsIn, startsIn, namesIn}
+use Rattle.worktable.specs.Tables.{rowsOf, tableOf, flat}
+use Rattle.worktable.specs.Packed.{nonterminalIn, endsIn, startsIn, namesIn}
 use Rattle.ujthanor.specs.LentRows.{rowOf, written, IsRow, shown, noSummary, StandsFor}
 
 -- ---- what a lent row stands for

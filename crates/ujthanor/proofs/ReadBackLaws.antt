@@ -8,7 +8,7 @@ use lib.ListN.{length, getD}
 use Rattle.words.specs.Reduced.{Stack}
 use Rattle.summary.specs.declared.Summary.{Summary}
 use Rattle.summary.specs.Packing.{Packs}
-use Rattle.rows.proofs.PackedLaws.{packed-values, packed-length, packed-nonterminal, packed-ends, packed-starts, packed-names}
+use Rattle.worktable.proofs.PackedLaws.{packed-values, packed-length, packed-nonterminal, packed-ends, packed-starts, packed-names}
 use Rattle.ujthanor.specs.LentRows.{rowOf, shown, StandsFor}
 
 module _ (s : Summary) (tags : Stack ℕ) (after : ℕ) (packs : Packs s tags after) (bytes : (k : ℕ) → getD (s .names) k 0 < 256) where

@@ -5,7 +5,7 @@ use mathlib.Core.List.{List, _++_}
 use Prim.Native.Nat.{ℕ}
 use lib.ListN.{length, drop, replicate}
 use Rattle.summary.specs.declared.Summary.{Summary}
-use Rattle.rows.specs.Packed.{packed, nonterminalIn, endsIn, startsIn, namesIn}
+use Rattle.worktable.specs.Packed.{packed, nonterminalIn, endsIn, startsIn, namesIn}
 
 -- ---- lent to be written
 

@@ -41,8 +41,8 @@ fn put_summary(row: &mut [u64], s: summary::Summary)
 {
     let names = s.names;
     let relations = s.relations;
-    let packed = rows::pack(0, s.ends, s.starts, &names, &relations);
-    rows::add(row, 0, &packed);
+    let packed = worktable::pack(0, s.ends, s.starts, &names, &relations);
+    worktable::add(row, 0, &packed);
 }
 
 // Summarises a fragment: the answer and its number; the summary in the row. A row under 20 entries is refused first, with 17.
@@ -85,12 +85,12 @@ fn lent(row: &[u64]) -> summary::Summary
     if row.len() != 20 {
         return no_summary();
     }
-    if rows::nonterminal(row) != 0 {
+    if worktable::nonterminal(row) != 0 {
         return no_summary();
     }
     let mut names = [0u8; 16];
     let mut relations = [0u64; 17];
-    let c = rows::unpack(row, &mut names, &mut relations);
+    let c = worktable::unpack(row, &mut names, &mut relations);
     summary::Summary {
         ends: c.ends,
         starts: c.starts,

@@ -9,8 +9,8 @@ use native.Mathlib.Omega.{arith}
 use lib.Bits.{bitOr}
 use borrow.Author.Needs.{needs}
 use borrow.Author.Tests.{eqb-true}
-use Rattle.hedge.specs.Relation.{bit}
-use Rattle.hedge.proofs.BitLaws.{bit-past, bit-pow, shl-one}
+use Rattle.numbers.specs.Bits.{bit}
+use Rattle.numbers.proofs.BitLaws.{bit-past, bit-pow, shl-one}
 use Rattle.template.specs.Grammar.{Gives}
 use Rattle.trees.specs.Trees.{Reached, start-reached}
 use Rattle.trees.proofs.MarkLaws.{HasTree, productive-each, all-map, marked-productive, marks-productive, marks-reached}

@@ -10,9 +10,9 @@ use native.Mathlib.Omega.{arith}
 use lib.Bits.{or-add-and, and-le-r}
 use lib.Dec.{eqb}
 use borrow.Author.Tests.{eqb-true, eq-eqb, lt-ltb, le-leb, lt-leb}
-use Rattle.hedge.specs.Relation.{bit}
-use Rattle.hedge.proofs.TestLaws.{or-out}
-use Rattle.hedge.proofs.BitLaws.{bit-or, bit-pow}
+use Rattle.numbers.specs.Bits.{bit}
+use Rattle.numbers.proofs.TestLaws.{or-out}
+use Rattle.numbers.proofs.BitLaws.{bit-or, bit-pow}
 use Rattle.useful.specs.Marks.{Justified, Passed, KeptBelow, atSlot, withMark, withSlot}
 use Rattle.useful.proofs.SlotLaws.{Marked, Slot, slot-unused}
 

@@ -11,8 +11,8 @@ use native.Mathlib.Omega.{arith}
 use lib.Dec.{ltb}
 use lib.ListN.{take}
 use borrow.Author.Tests.{lt-ltb, le-ltb, le-leb, lt-leb}
-use Rattle.hedge.specs.Schema.{field}
-use Rattle.hedge.specs.Relation.{bit}
+use Rattle.numbers.specs.Fields.{field}
+use Rattle.numbers.specs.Bits.{bit}
 use Rattle.template.specs.Grammar.{Symbol, tag, nonterminal, symbolOf, rightSide}
 use Rattle.trees.proofs.MarkLaws.{AllNonterminals}
 use Rattle.useful.specs.Marks.{AllMarked, atSlot, slotMarked}

@@ -10,9 +10,9 @@ use native.Mathlib.Omega.{arith}
 use lib.Dec.{ltb}
 use lib.ListN.{length}
 use borrow.Author.Tests.{ltb-true}
-use Rattle.hedge.specs.Schema.{field}
-use Rattle.hedge.specs.Relation.{bit}
-use Rattle.hedge.proofs.TestLaws.{and-out}
+use Rattle.numbers.specs.Fields.{field}
+use Rattle.numbers.specs.Bits.{bit}
+use Rattle.numbers.proofs.TestLaws.{and-out}
 use Rattle.template.specs.Grammar.{rightSide, Gives}
 use Rattle.trees.specs.Trees.{Productive, Reached}
 use Rattle.trees.proofs.MarkLaws.{AllNonterminals, all-map, all-both, HasTree, all-productive, rule-all-reached, mark-productive}

@@ -10,8 +10,8 @@ use native.Mathlib.Omega.{arith}
 use lib.Dec.{ltb}
 use lib.ListN.{length}
 use borrow.Author.Tests.{lt-ltb}
-use Rattle.hedge.specs.Schema.{field}
-use Rattle.hedge.specs.Relation.{bit}
+use Rattle.numbers.specs.Fields.{field}
+use Rattle.numbers.specs.Bits.{bit}
 use Rattle.template.specs.Layout.{names, nonterminals, templateRules}
 use Rattle.template.specs.Grammar.{Symbol, tag, nonterminal, rightSide, Gives}
 use Rattle.template.proofs.SoundLaws.{SoundFile}

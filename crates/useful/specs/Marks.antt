@@ -8,8 +8,8 @@ use Prim.Native.Nat.{ℕ, _-_, _/_, _^_, _≤_, _<_}
 use lib.Bits.{bitOr}
 use lib.Dec.{ltb, leb}
 use lib.ListN.{length}
-use Rattle.hedge.specs.Schema.{field}
-use Rattle.hedge.specs.Relation.{bit}
+use Rattle.numbers.specs.Fields.{field}
+use Rattle.numbers.specs.Bits.{bit}
 use Rattle.template.specs.Grammar.{Symbol, tag, nonterminal, rightSide, Gives}
 use Rattle.trees.specs.Trees.{Productive, Reached}
 

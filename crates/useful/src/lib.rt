@@ -5,7 +5,7 @@ ghost use mathlib.Core.Bool.{true};
 ghost use mathlib.Core.Logic.{_↔_};
 ghost use Prim.Native.Nat.{_/_, _<_};
 ghost use lib.ListN.{length};
-ghost use Rattle.hedge.specs.Relation.{bit};
+ghost use Rattle.numbers.specs.Bits.{bit};
 ghost use Rattle.template.specs.Grammar.{rightSide, Gives};
 ghost use Rattle.trees.specs.Trees.{Reached};
 ghost use Rattle.useful.specs.Marks.{slotMarked, withMark, withSlot, Ruled, AllMarked, MarksAll, Fruitful, Passed};
@@ -47,9 +47,9 @@ fn all_marked(rules: &[u8], i: usize, marks: u64) -> bool
     requires { ⌜ i < length (now rules) / 4 ⌝ }
     ensures { λ r. ⌜ (r ≡ true) ↔ AllMarked (bit marks) (rightSide (now (rules .entry)) i) ⌝ }
 {
-    let n = hedge::field(rules, i, 1);
-    symbol_marked(0 < n, hedge::field(rules, i, 2), marks)
-        & symbol_marked(1 < n, hedge::field(rules, i, 3), marks)
+    let n = numbers::field(rules, i, 1);
+    symbol_marked(0 < n, numbers::field(rules, i, 2), marks)
+        & symbol_marked(1 < n, numbers::field(rules, i, 3), marks)
 }
 
 // The marks with the left side of rule i, where its right side is all marked.
@@ -59,7 +59,7 @@ fn step_up(rules: &[u8], i: usize, marks: u64) -> u64
     ensures { λ r. ⌜ Passed (Fruitful (now (rules .entry))) (KeptUp (now (rules .entry)) i) marks r ⌝ }
 {
     if all_marked(rules, i, marks) {
-        return mark(marks, hedge::field(rules, i, 0));
+        return mark(marks, numbers::field(rules, i, 0));
     }
     marks
 }
@@ -114,11 +114,11 @@ fn step_down(rules: &[u8], fruitful: u64, i: usize, marks: u64) -> u64
     requires { ⌜ i < length (now rules) / 4 ⌝ }
     ensures { λ r. ⌜ Passed (Reached (Gives (now (rules .entry)))) (KeptDown (now (rules .entry)) fruitful i) marks r ⌝ }
 {
-    if marked(marks, hedge::field(rules, i, 0)) {
+    if marked(marks, numbers::field(rules, i, 0)) {
         if all_marked(rules, i, fruitful) {
-            let n = hedge::field(rules, i, 1);
-            let m = mark_symbol(0 < n, hedge::field(rules, i, 2), marks);
-            return mark_symbol(1 < n, hedge::field(rules, i, 3), m);
+            let n = numbers::field(rules, i, 1);
+            let m = mark_symbol(0 < n, numbers::field(rules, i, 2), marks);
+            return mark_symbol(1 < n, numbers::field(rules, i, 3), m);
         }
     }
     marks

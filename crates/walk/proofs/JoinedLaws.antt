@@ -10,19 +10,19 @@ use lib.ListN.{length}
 use Rattle.words.specs.Reduced.{Stack}
 use Rattle.words.specs.Reader.{Outcome, reduced, join}
 use Rattle.hedge.specs.Schema.{RulesBelow, EndsBelow}
-use Rattle.hedge.specs.Relation.{bit}
+use Rattle.numbers.specs.Bits.{bit}
 use Rattle.hedge.specs.Operations.{relations, unit}
 use Rattle.template.specs.Grammar.{Gives}
 use Rattle.trees.specs.Trees.{Useful}
 use Rattle.useful.specs.Marks.{Ruled, MarksAll}
-use Rattle.turns.specs.Slots.{rowAt, leftSlot, rightSlot, Choice, choices}
+use Rattle.pairs.specs.Slots.{rowAt, leftSlot, rightSlot, Choice, choices}
 use Rattle.walk.specs.Shares.{Sharing}
 use Rattle.walk.specs.Walks.{ResultOver, Walked}
-use Rattle.turns.specs.Turns.{FormOf, Turned, no-forms, joined}
-use Rattle.turns.specs.declared.Slot.{Slot}
-use Rattle.turns.specs.declared.Notes.{Notes}
-use Rattle.turns.specs.declared.Turn.{Turn}
-use Rattle.turns.specs.declared.Turn.the-variants.{Kept, Mismatch}
+use Rattle.pairs.specs.Turns.{FormOf, Turned, no-forms, joined}
+use Rattle.pairs.specs.declared.Slot.{Slot}
+use Rattle.pairs.specs.declared.Notes.{Notes}
+use Rattle.pairs.specs.declared.Turn.{Turn}
+use Rattle.pairs.specs.declared.Turn.the-variants.{Kept, Mismatch}
 use Rattle.walk.specs.declared.Walk.the-variants.{Stopped}
 use Rattle.walk.proofs.SlotLaws.{choice-form, choice-same}
 use Rattle.walk.proofs.PairingLaws.{Pairing, pairing-marked, pairing-result, pairing-proper, pairing-unique}

@@ -13,22 +13,22 @@ use lib.ListN.{length, drop}
 use borrow.Author.Tests.{eqb-true, eqb-false}
 use Rattle.words.specs.Reduced.{Stack, tags}
 use Rattle.words.specs.Reader.{Outcome, reduced, differ}
-use Rattle.hedge.specs.Relation.{bit}
-use Rattle.hedge.proofs.TestLaws.{or-out}
+use Rattle.numbers.specs.Bits.{bit}
+use Rattle.numbers.proofs.TestLaws.{or-out}
 use Rattle.trees.specs.Events.{Pair}
-use Rattle.rows.specs.Tables.{rowsOf, tableOf, among}
-use Rattle.rows.specs.Packed.{RowOf}
-use Rattle.rows.proofs.OrderLaws.{among-member, not-among}
-use Rattle.rows.proofs.TableLaws.{row-member, member-row, add-before, add-last, add-length, add-rest}
-use Rattle.rows.proofs.RowLaws.{row-length, pair-row}
-use Rattle.turns.specs.Slots.{rowAt, Tabled}
+use Rattle.worktable.specs.Tables.{rowsOf, tableOf, among}
+use Rattle.worktable.specs.Packed.{RowOf}
+use Rattle.worktable.proofs.OrderLaws.{among-member, not-among}
+use Rattle.worktable.proofs.TableLaws.{row-member, member-row, add-before, add-last, add-length, add-rest}
+use Rattle.worktable.proofs.RowLaws.{row-length, pair-row}
+use Rattle.pairs.specs.Slots.{rowAt, Tabled}
 use Rattle.walk.specs.Walks.{ValidForm, Proper, Tidy, Noted}
-use Rattle.turns.specs.Turns.{invalidForm, afterForm, FormNoted, was-crowded, stands, finds-no-room, goes-behind}
-use Rattle.turns.specs.Turns.{FormsNoted, forms-none, forms-other, forms-more, OutcomeNoted, mismatches, is-deep, is-form}
-use Rattle.turns.specs.declared.Notes.{Notes}
-use Rattle.turns.specs.declared.Tally.{Tally}
-use Rattle.turns.specs.declared.Turn.{Turn}
-use Rattle.turns.specs.declared.Turn.the-variants.{Kept, Mismatch}
+use Rattle.pairs.specs.Turns.{invalidForm, afterForm, FormNoted, was-crowded, stands, finds-no-room, goes-behind}
+use Rattle.pairs.specs.Turns.{FormsNoted, forms-none, forms-other, forms-more, OutcomeNoted, mismatches, is-deep, is-form}
+use Rattle.pairs.specs.declared.Notes.{Notes}
+use Rattle.pairs.specs.declared.Tally.{Tally}
+use Rattle.pairs.specs.declared.Turn.{Turn}
+use Rattle.pairs.specs.declared.Turn.the-variants.{Kept, Mismatch}
 use Rattle.walk.proofs.ValidLaws.{or-false-left, or-false-right, invalid-form, valid-start-form, deep-invalid}
 use Rattle.walk.proofs.ProgressLaws.{below-next, Later, tabled-later, noted-later, Sofar, sofar-seen}
 

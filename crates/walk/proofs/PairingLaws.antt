@@ -12,18 +12,19 @@ use Rattle.words.specs.Reduced.{Stack}
 use Rattle.words.specs.Reader.{Outcome, reduced, join}
 use Rattle.words.proofs.JoinLaws.{join-good}
 use Rattle.hedge.specs.Schema.{RulesBelow, EndsBelow}
-use Rattle.hedge.specs.Relation.{bit}
+use Rattle.numbers.specs.Bits.{bit}
 use Rattle.hedge.specs.Operations.{relations, unit}
 use Rattle.hedge.proofs.NumberLaws.{relations-laws}
 use Rattle.template.specs.Grammar.{Symbol, Gives, rightSide}
 use Rattle.template.proofs.GrammarLaws.{right-length}
-use Rattle.stack.proofs.HeldLaws.{ends-first-held}
+use Rattle.form.proofs.HeldLaws.{ends-first-held}
 use Rattle.trees.specs.Trees.{Useful}
 use Rattle.trees.specs.Events.{Pair}
 use Rattle.useful.specs.Marks.{Ruled, MarksAll}
 use Rattle.trees.proofs.PairLaws.{GoodForm, form-good, result-pair}
-use Rattle.rows.proofs.RowLaws.{row-pair}
-use Rattle.turns.specs.Slots.{rowAt, PairRow, Tabled, leftSlot, rightSlot, Choice, choices, newFrom}
+use Rattle.worktable.proofs.RowLaws.{row-pair}
+use Rattle.pairs.specs.Slots.{rowAt, Tabled, leftSlot, rightSlot, Choice, choices, newFrom}
+use Rattle.worktable.specs.Packed.{PairRow}
 use Rattle.walk.specs.Shares.{FirstSame, SharesRight, Sharing}
 use Rattle.walk.specs.Walks.{ResultOver, Proper}
 use Rattle.walk.proofs.ShareLaws.{share-first, same-slots}

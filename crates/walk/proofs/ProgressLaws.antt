@@ -10,9 +10,9 @@ use native.Mathlib.Decide.{decLt}
 use native.Mathlib.Omega.{arith}
 use Rattle.words.specs.Reader.{Outcome}
 use Rattle.trees.specs.Events.{Pair}
-use Rattle.turns.specs.Slots.{rowAt, Tabled}
+use Rattle.pairs.specs.Slots.{rowAt, Tabled}
 use Rattle.walk.specs.Walks.{Tidy, Settled, Noted, Happened, Grown}
-use Rattle.turns.specs.declared.Notes.{Notes}
+use Rattle.pairs.specs.declared.Notes.{Notes}
 
 -- below n + 1: below n, or n
 pub below-next : (k n : ℕ) → k < n + 1 → (k < n) ⊎ (k ≡ n)

@@ -11,18 +11,18 @@ use lib.ListN.{length}
 use borrow.Author.Tests.{ltb-true, lt-ltb, le-ltb}
 use Rattle.hedge.specs.Schema.{RulesBelow, EndsBelow}
 use Rattle.template.specs.Grammar.{Gives}
-use Rattle.stack.specs.Steps.{Schooled}
+use Rattle.form.specs.Steps.{Schooled}
 use Rattle.trees.specs.Trees.{Useful}
 use Rattle.useful.specs.Marks.{Ruled, MarksAll}
-use Rattle.turns.specs.Slots.{leftSlot, rightSlot, choices, newFrom}
+use Rattle.pairs.specs.Slots.{leftSlot, rightSlot, choices, newFrom}
 use Rattle.walk.specs.Shares.{Sharing}
 use Rattle.walk.specs.Walks.{Tidy, Ready, Walked}
-use Rattle.turns.specs.Turns.{slotFits, leftsOf, leftFrom, rightFrom, Choosable, Turned}
-use Rattle.turns.specs.declared.Slot.{Slot}
-use Rattle.turns.specs.declared.Slot.the-variants.{Absent, Single, Rows}
-use Rattle.turns.specs.declared.Notes.{Notes}
-use Rattle.turns.specs.declared.Turn.{Turn}
-use Rattle.turns.specs.declared.Turn.the-variants.{Kept, Mismatch}
+use Rattle.pairs.specs.Turns.{slotFits, leftsOf, leftFrom, rightFrom, Choosable, Turned}
+use Rattle.pairs.specs.declared.Slot.{Slot}
+use Rattle.pairs.specs.declared.Slot.the-variants.{Absent, Single, Rows}
+use Rattle.pairs.specs.declared.Notes.{Notes}
+use Rattle.pairs.specs.declared.Turn.{Turn}
+use Rattle.pairs.specs.declared.Turn.the-variants.{Kept, Mismatch}
 use Rattle.walk.specs.declared.Walk.the-variants.{Stopped, Went}
 use Rattle.walk.proofs.ProgressLaws.{no-notes}
 use Rattle.walk.proofs.VisitLaws.{Going, going-start, left-start, right-start, right-end, left-end, walk-end}

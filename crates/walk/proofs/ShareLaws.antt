@@ -12,16 +12,16 @@ use lib.Dec.{ltb, eqb}
 use lib.ListN.{length, getD}
 use borrow.Author.Needs.{needs}
 use borrow.Author.Tests.{lt-ltb, le-ltb, eqb-true, eq-eqb}
-use Rattle.hedge.specs.Schema.{field}
-use Rattle.hedge.specs.Relation.{bit}
-use Rattle.hedge.proofs.BitLaws.{bit-past}
-use Rattle.hedge.proofs.TestLaws.{and-out, or-out}
+use Rattle.numbers.specs.Fields.{field}
+use Rattle.numbers.specs.Bits.{bit}
+use Rattle.numbers.proofs.BitLaws.{bit-past}
+use Rattle.numbers.proofs.TestLaws.{and-out, or-out}
 use Rattle.template.specs.Grammar.{rightSide}
 use Rattle.useful.specs.Marks.{withMark}
 use Rattle.useful.proofs.PassLaws.{mark-bit}
 use Rattle.useful.proofs.StepLaws.{left-small}
-use Rattle.turns.specs.Slots.{leftSlot, rightSlot}
-use Rattle.turns.specs.Turns.{leftsOf}
+use Rattle.pairs.specs.Slots.{leftSlot, rightSlot}
+use Rattle.pairs.specs.Turns.{leftsOf}
 use Rattle.walk.specs.Shares.{SameRight, FirstSame, Sharing}
 use Rattle.walk.proofs.ProgressLaws.{below-next}
 

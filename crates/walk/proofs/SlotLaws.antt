@@ -12,16 +12,16 @@ use lib.Dec.{ltb}
 use borrow.Author.Tests.{lt-ltb, eq-eqb}
 use Rattle.words.specs.Tags.{start, end}
 use Rattle.words.specs.Reduced.{Stack}
-use Rattle.hedge.specs.Schema.{field}
+use Rattle.numbers.specs.Fields.{field}
 use Rattle.hedge.specs.Operations.{relations, unit}
 use Rattle.template.specs.Grammar.{tag, nonterminal, symbolOf, rightSide}
 use Rattle.trees.specs.Results.{SymbolForm, FormAt}
-use Rattle.turns.specs.Slots.{Tabled, slotOf, leftSlot, rightSlot, Choice, choices, newFrom, rowAt}
-use Rattle.rows.specs.Packed.{nonterminalIn}
-use Rattle.rows.proofs.RowLaws.{row-pair, row-nonterminal}
-use Rattle.turns.specs.Turns.{slotFits, FormOf}
-use Rattle.turns.specs.declared.Slot.{Slot}
-use Rattle.turns.specs.declared.Slot.the-variants.{Absent, Single, Rows}
+use Rattle.pairs.specs.Slots.{Tabled, slotOf, leftSlot, rightSlot, Choice, choices, newFrom, rowAt}
+use Rattle.worktable.specs.Packed.{nonterminalIn}
+use Rattle.worktable.proofs.RowLaws.{row-pair, row-nonterminal}
+use Rattle.pairs.specs.Turns.{slotFits, FormOf}
+use Rattle.pairs.specs.declared.Slot.{Slot}
+use Rattle.pairs.specs.declared.Slot.the-variants.{Absent, Single, Rows}
 
 -- some choice of the slot is this form
 abbrev pub Chosen : ℕ → List ℕ → ℕ → Slot → Stack ℕ → ℕ → Type 0

@@ -8,9 +8,9 @@ use native.Mathlib.Omega.{arith}
 use lib.Dec.{eqb}
 use borrow.Author.Tests.{eqb-true, eq-eqb, not-true, not-false}
 use Rattle.words.specs.Reduced.{Stack, bottom, push, tags}
-use Rattle.hedge.proofs.TestLaws.{and-out}
+use Rattle.numbers.proofs.TestLaws.{and-out}
 use Rattle.walk.specs.Walks.{ValidForm}
-use Rattle.turns.specs.Turns.{isPage, invalidForm}
+use Rattle.pairs.specs.Turns.{isPage, invalidForm}
 
 pub or-false-left : (a b : Bool) → (a || b) ≡ false → a ≡ false
 or-false-left false b e = refl

@@ -17,11 +17,11 @@ use Rattle.hedge.specs.Operations.{unit}
 use Rattle.template.specs.Grammar.{Gives}
 use Rattle.trees.specs.Trees.{Useful}
 use Rattle.useful.specs.Marks.{Ruled, MarksAll}
-use Rattle.turns.specs.Slots.{rowAt, leftSlot, rightSlot, Choice, choices, newFrom}
+use Rattle.pairs.specs.Slots.{rowAt, leftSlot, rightSlot, Choice, choices, newFrom}
 use Rattle.walk.specs.Shares.{Sharing}
 use Rattle.walk.specs.Walks.{ResultOver, Tidy, Ready, Noted, Walked}
-use Rattle.turns.specs.Turns.{slotFits, leftsOf, leftFrom, rightFrom}
-use Rattle.turns.specs.declared.Notes.{Notes}
+use Rattle.pairs.specs.Turns.{slotFits, leftsOf, leftFrom, rightFrom}
+use Rattle.pairs.specs.declared.Notes.{Notes}
 use Rattle.walk.specs.declared.Walk.the-variants.{Went}
 use Rattle.walk.proofs.ShareLaws.{marks-some}
 use Rattle.walk.proofs.SlotLaws.{choice-fits, choice-same, none-old}

@@ -14,8 +14,9 @@ use Rattle.template.specs.Grammar.{Gives}
 use Rattle.trees.specs.Trees.{Useful}
 use Rattle.trees.specs.Events.{Pair}
 use Rattle.trees.specs.Results.{Result}
-use Rattle.turns.specs.Slots.{rowAt, PairRow, Tabled}
-use Rattle.turns.specs.declared.Notes.{Notes}
+use Rattle.pairs.specs.Slots.{rowAt, Tabled}
+use Rattle.worktable.specs.Packed.{PairRow}
+use Rattle.pairs.specs.declared.Notes.{Notes}
 use Rattle.walk.specs.declared.Walk.{Walk}
 use Rattle.walk.specs.declared.Walk.the-variants.{Stopped, Went}
 

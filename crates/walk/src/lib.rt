@@ -7,21 +7,22 @@ ghost use mathlib.Core.Logic.{_↔_};
 ghost use Prim.Native.Nat.{_+_, _*_, _/_, _<_};
 ghost use lib.Dec.{ltb};
 ghost use lib.ListN.{length};
-ghost use Rattle.hedge.specs.Schema.{field, RulesBelow, EndsBelow};
-ghost use Rattle.hedge.specs.Relation.{bit};
+ghost use Rattle.numbers.specs.Fields.{field};
+ghost use Rattle.hedge.specs.Schema.{RulesBelow, EndsBelow};
+ghost use Rattle.numbers.specs.Bits.{bit};
 ghost use Rattle.template.specs.Grammar.{Gives};
 ghost use Rattle.trees.specs.Trees.{Useful};
-ghost use Rattle.stack.specs.Steps.{Schooled};
+ghost use Rattle.form.specs.Steps.{Schooled};
 ghost use Rattle.useful.specs.Marks.{withMark, Ruled, MarksAll};
-ghost use Rattle.turns.specs.Slots.{leftSlot, rightSlot, choices, newFrom};
-ghost use Rattle.turns.specs.Turns.{slotFits, leftsOf, leftFrom, rightFrom, Choosable};
+ghost use Rattle.pairs.specs.Slots.{leftSlot, rightSlot, choices, newFrom};
+ghost use Rattle.pairs.specs.Turns.{slotFits, leftsOf, leftFrom, rightFrom, Choosable};
 ghost use Rattle.walk.specs.Shares.{SameRight, Sharing};
 ghost use Rattle.walk.specs.Walks.{Tidy, Ready, Walked};
 
 // Stopped at the first mismatch, or went through, with so many rows and these notes.
 pub enum Walk {
     Stopped,
-    Went(usize, turns::Notes),
+    Went(usize, pairs::Notes),
 }
 
 // The left side of rule i, and the slots of its right side.
@@ -32,52 +33,52 @@ fn left_side(rules: &[u8], i: usize) -> u8
     rules[i * 4]
 }
 
-fn left_slot(rules: &[u8], i: usize) -> turns::Slot
+fn left_slot(rules: &[u8], i: usize) -> pairs::Slot
     requires { ⌜ i < length (now rules) / 4 ⌝ }
     ensures { λ r. ⌜ r ≡ leftSlot (now (rules .entry)) i ⌝ }
 {
     let at = i * 4;
-    turns::slot_of(0 < rules[at + 1], rules[at + 2])
+    pairs::slot_of(0 < rules[at + 1], rules[at + 2])
 }
 
-fn right_slot(rules: &[u8], i: usize) -> turns::Slot
+fn right_slot(rules: &[u8], i: usize) -> pairs::Slot
     requires { ⌜ i < length (now rules) / 4 ⌝ }
     ensures { λ r. ⌜ r ≡ rightSlot (now (rules .entry)) i ⌝ }
 {
     let at = i * 4;
-    turns::slot_of(1 < rules[at + 1], rules[at + 3])
+    pairs::slot_of(1 < rules[at + 1], rules[at + 3])
 }
 
-fn choices(s: turns::Slot, n: usize) -> usize
+fn choices(s: pairs::Slot, n: usize) -> usize
     ensures { λ r. ⌜ r ≡ choices s n ⌝ }
 {
     match s {
-        turns::Slot::Absent => 1,
-        turns::Slot::Single(_, _) => 1,
-        turns::Slot::Rows(_) => n,
+        pairs::Slot::Absent => 1,
+        pairs::Slot::Single(_, _) => 1,
+        pairs::Slot::Rows(_) => n,
     }
 }
 
 // From which choice on they are new in this round.
-fn new_from(s: turns::Slot, prev: usize, first: bool) -> usize
+fn new_from(s: pairs::Slot, prev: usize, first: bool) -> usize
     ensures { λ r. ⌜ r ≡ newFrom s prev first ⌝ }
 {
     match s {
-        turns::Slot::Absent => { if first { 0 } else { 1 } }
-        turns::Slot::Single(_, _) => { if first { 0 } else { 1 } }
-        turns::Slot::Rows(_) => prev,
+        pairs::Slot::Absent => { if first { 0 } else { 1 } }
+        pairs::Slot::Single(_, _) => { if first { 0 } else { 1 } }
+        pairs::Slot::Rows(_) => prev,
     }
 }
 
 // Is choice k of the slot one of its own: no row of another nonterminal?
-fn fits(s: turns::Slot, k: usize, table: &[u64]) -> bool
+fn fits(s: pairs::Slot, k: usize, table: &[u64]) -> bool
     requires { ⌜ Choosable (now table) s k ⌝ }
     ensures { λ r. ⌜ r ≡ slotFits s k (now (table .entry)) ⌝ }
 {
     match s {
-        turns::Slot::Absent => true,
-        turns::Slot::Single(_, _) => true,
-        turns::Slot::Rows(x) => turns::row_fits(table, k, x),
+        pairs::Slot::Absent => true,
+        pairs::Slot::Single(_, _) => true,
+        pairs::Slot::Rows(x) => pairs::row_fits(table, k, x),
     }
 }
 
@@ -93,7 +94,7 @@ fn left_from(new_left: usize, new_right: usize, rights: usize) -> usize
 
 // The first right choice to join with left choice j: all where j is new, only the new ones where it is not, none where j does not fit.
 fn right_from(
-    left: turns::Slot,
+    left: pairs::Slot,
     j: usize,
     table: &[u64],
     new_left: usize,
@@ -133,8 +134,8 @@ fn with_useful(marks: u64, useful: u64, x: u8) -> u64
     requires { ⌜ x < 64 ⌝ }
     ensures { λ r. ⌜ r ≡ cond (bit useful x) (withMark marks x) marks ⌝ }
 {
-    if useful::marked(useful, words::wide(x)) {
-        return useful::mark(marks, words::wide(x));
+    if useful::marked(useful, numbers::wide(x)) {
+        return useful::mark(marks, numbers::wide(x));
     }
     marks
 }
@@ -160,7 +161,7 @@ fn sharers(rules: &[u8], useful: u64, i: usize) -> u64
 }
 
 // How many left choices a rule has in the walk: none where it is walked for no nonterminal.
-fn lefts_of(marks: u64, left: turns::Slot, n: usize) -> usize
+fn lefts_of(marks: u64, left: pairs::Slot, n: usize) -> usize
     ensures { λ r. ⌜ r ≡ leftsOf (ltb 0 marks) (choices left n) ⌝ }
 {
     if 0 < marks {
@@ -193,7 +194,7 @@ pub fn walk_round(
         (now (table .exit)) ⌝ }
 {
     let mut m = n;
-    let mut notes = turns::Notes {
+    let mut notes = pairs::Notes {
         invalid: false,
         deep: false,
         crowded: false,
@@ -212,7 +213,7 @@ pub fn walk_round(
             while j < lefts {
                 let mut k = right_from(left, j, table, new_left, new_right, rights);
                 while k < rights {
-                    let t = turns::one_turn(
+                    let t = pairs::one_turn(
                         schema,
                         endings,
                         states,
@@ -227,11 +228,11 @@ pub fn walk_round(
                         notes,
                     );
                     match t {
-                        turns::Turn::Kept(a, b) => {
+                        pairs::Turn::Kept(a, b) => {
                             m = a;
                             notes = b;
                         }
-                        turns::Turn::Mismatch => {
+                        pairs::Turn::Mismatch => {
                             break 'walk Walk::Stopped;
                         }
                     }

@@ -1,7 +1,5 @@
-// What a byte of a page or fragment is, and a byte as a number. The crate's theory of words and their reduced forms is in specs/ and
+// What a byte of a page or fragment is. The crate's theory of words and their reduced forms is in specs/ and
 // proofs/.
-ghost use mathlib.Core.Path.{_≡_};
-ghost use Prim.Native.Nat.{_<_};
 ghost use Rattle.words.specs.Classes.{Classed};
 
 // The start tag of a name, the end tag of a name, or no tag.
@@ -28,11 +26,4 @@ pub fn class_of(names: u8, byte: u8) -> Class
         }
     }
     Class::NoTag
-}
-
-// A byte as a number of the machine's width.
-pub fn wide(x: u8) -> usize
-    ensures { λ r. ⌜ (r ≡ x) × (r < 256) ⌝ }
-{
-    x as usize
 }

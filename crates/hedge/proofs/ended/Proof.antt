@@ -3,7 +3,8 @@ use mathlib.Core.Path.{_≡_}
 use Prim.Native.Nat.{_≤_, _-_}
 use lib.ListN.{length, getD}
 use Rattle.hedge.specs.Relation.{has}
-use Rattle.hedge.specs.Operations.{any, ended}
+use Rattle.numbers.specs.Bits.{any}
+use Rattle.hedge.specs.Operations.{ended}
 use Rattle.hedge.proofs.LoopLaws.{turns}
 use Rattle.hedge.proofs.ended.Statement.{statement}
 use Rattle.hedge.proofs.ended.Tie as tie

@@ -1,5 +1,6 @@
 -- The test of a bit is `bit` as it is written; the shift is below 64 since x and z are below 8. Assumes nothing.
-use Rattle.hedge.specs.Relation.{bit, has}
+use Rattle.numbers.specs.Bits.{bit}
+use Rattle.hedge.specs.Relation.{has}
 use Rattle.hedge.proofs.LoopLaws.{turns}
 use Rattle.hedge.proofs.has.Statement.{statement}
 use Rattle.hedge.proofs.has.Tie as tie

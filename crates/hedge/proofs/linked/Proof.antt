@@ -3,7 +3,7 @@ use mathlib.Core.Path.{_≡_}
 use mathlib.Core.Bool.{_&&_}
 use Prim.Native.Nat.{_≤_, _-_}
 use Rattle.hedge.specs.Relation.{has}
-use Rattle.hedge.specs.Operations.{any}
+use Rattle.numbers.specs.Bits.{any}
 use Rattle.hedge.proofs.LoopLaws.{turns}
 use Rattle.hedge.proofs.linked.Statement.{statement}
 use Rattle.hedge.proofs.linked.Tie as tie

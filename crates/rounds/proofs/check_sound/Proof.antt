@@ -1,7 +1,7 @@
 -- The start is marked exactly where it derives some page, and what is reached is then useful (PartLaws). Assumes nothing.
 use mathlib.Core.Path.{refl}
 use borrow.Author.Needs.{needs}
-use Rattle.summary.proofs.ShapeLaws.{shape-sound}
+use Rattle.template.proofs.ShapeLaws.{shape-sound}
 use Rattle.rounds.proofs.PartLaws.{part-ruled, marked-page, unmarked-no-page, reached-useful}
 use Rattle.rounds.proofs.check_sound.Statement.{statement}
 use Rattle.rounds.proofs.check_sound.Tie as tie

@@ -6,7 +6,7 @@ use native.Mathlib.Omega.{arith}
 use denote.Ref.{now}
 use borrow.Author.Needs.{needs}
 use Rattle.template.specs.Order.{IsSound}
-use Rattle.summary.proofs.ShapeLaws.{shape-sound}
+use Rattle.template.proofs.ShapeLaws.{shape-sound}
 use Rattle.walk.specs.declared.Walk.{Walk}
 use Rattle.rounds.proofs.StateLaws.{AfterRound, start-state, state-ready}
 use Rattle.rounds.proofs.EndLaws.{Turn, Noting, ends-used}

@@ -1,6 +1,6 @@
 -- A bad file is refused with its place; under a sound one the bytes are read. Assumes nothing.
 use borrow.Author.Needs.{needs}
-use Rattle.summary.proofs.ShapeLaws.{read-is}
+use Rattle.template.proofs.ShapeLaws.{read-is}
 use Rattle.summary.proofs.FragmentLaws.{says-bad, fragment-turns}
 use Rattle.summary.proofs.fragment.Statement.{statement}
 use Rattle.summary.proofs.fragment.Tie as tie

@@ -1,7 +1,8 @@
 -- A bad file is refused with its place. Of a sound one the numbers are the file's, so each test says whether a struct is a summary under
 -- it; two summaries are joined. Assumes nothing.
 use borrow.Author.Needs.{needs}
-use Rattle.summary.proofs.ShapeLaws.{read-is, shape-sound, states-few, passed-summary, failed-summary}
+use Rattle.template.proofs.ShapeLaws.{read-is, shape-sound, states-few}
+use Rattle.summary.proofs.ShapeLaws.{passed-summary, failed-summary}
 use Rattle.summary.proofs.JoinedLaws.{join-bad, join-no-left, join-no-right}
 use Rattle.summary.proofs.join.Statement.{statement}
 use Rattle.summary.proofs.join.Tie as tie

@@ -2,8 +2,9 @@
 -- under it; a summary's counts give its net depth. Assumes nothing.
 use mathlib.Core.Path.{_∙_, sym}
 use borrow.Author.Needs.{needs}
-use Rattle.stack.proofs.HeldLaws.{net-held}
-use Rattle.summary.proofs.ShapeLaws.{read-is, shape-sound, states-few, passed-summary, failed-summary}
+use Rattle.form.proofs.HeldLaws.{net-held}
+use Rattle.template.proofs.ShapeLaws.{read-is, shape-sound, states-few}
+use Rattle.summary.proofs.ShapeLaws.{passed-summary, failed-summary}
 use Rattle.summary.proofs.SignedLaws.{difference-again}
 use Rattle.summary.proofs.net_depth.Statement.{statement}
 use Rattle.summary.proofs.net_depth.Tie as tie

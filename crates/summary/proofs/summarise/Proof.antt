@@ -2,7 +2,7 @@
 -- file, and what it leaves in the arrays is packed. Assumes nothing.
 use mathlib.Core.Path.{refl}
 use borrow.Author.Needs.{needs}
-use Rattle.stack.proofs.TagLaws.{holds-none}
+use Rattle.form.proofs.TagLaws.{holds-none}
 use Rattle.summary.proofs.FragmentLaws.{fragment-turns}
 use Rattle.summary.proofs.summarise.Statement.{statement}
 use Rattle.summary.proofs.summarise.Tie as tie

@@ -1,5 +1,5 @@
 -- The test of a bit is `bit` as it is written. Assumes nothing.
-use Rattle.hedge.specs.Relation.{bit}
+use Rattle.numbers.specs.Bits.{bit}
 use Rattle.useful.proofs.CloseLaws.{passes}
 use Rattle.useful.proofs.marked.Statement.{statement}
 use Rattle.useful.proofs.marked.Tie as tie

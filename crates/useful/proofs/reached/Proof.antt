@@ -3,7 +3,7 @@
 use mathlib.Core.Path.{_≡_}
 use mathlib.Core.Bool.{true}
 use Prim.Native.Nat.{_-_}
-use Rattle.hedge.specs.Relation.{bit}
+use Rattle.numbers.specs.Bits.{bit}
 use Rattle.template.specs.Grammar.{Gives}
 use Rattle.trees.specs.Trees.{Reached}
 use Rattle.useful.specs.Marks.{Justified}

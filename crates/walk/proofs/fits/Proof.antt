@@ -1,5 +1,5 @@
 -- By the slot: only a row can be another nonterminal's (LoadLaws). Assumes nothing.
-use Rattle.turns.proofs.LoadLaws.{loads}
+use Rattle.pairs.proofs.LoadLaws.{loads}
 use Rattle.walk.proofs.fits.Statement.{statement}
 use Rattle.walk.proofs.fits.Tie as tie
 

@@ -1,5 +1,5 @@
 -- The first of the rule's four bytes (LoadLaws). Assumes nothing.
-use Rattle.turns.proofs.LoadLaws.{loads}
+use Rattle.pairs.proofs.LoadLaws.{loads}
 use Rattle.walk.proofs.left_side.Statement.{statement}
 use Rattle.walk.proofs.left_side.Tie as tie
 

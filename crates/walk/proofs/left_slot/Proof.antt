@@ -1,5 +1,5 @@
 -- The slot of the rule's first symbol, where it has one (LoadLaws). Assumes nothing.
-use Rattle.turns.proofs.LoadLaws.{loads}
+use Rattle.pairs.proofs.LoadLaws.{loads}
 use Rattle.walk.proofs.left_slot.Statement.{statement}
 use Rattle.walk.proofs.left_slot.Tie as tie
 

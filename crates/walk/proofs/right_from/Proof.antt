@@ -1,5 +1,5 @@
 -- Two tests decide: does the left choice fit, and is it old (LoadLaws). Assumes nothing.
-use Rattle.turns.proofs.LoadLaws.{loads}
+use Rattle.pairs.proofs.LoadLaws.{loads}
 use Rattle.walk.proofs.right_from.Statement.{statement}
 use Rattle.walk.proofs.right_from.Tie as tie
 

@@ -1,5 +1,5 @@
 -- The slot of the rule's second symbol, where it has two (LoadLaws). Assumes nothing.
-use Rattle.turns.proofs.LoadLaws.{loads}
+use Rattle.pairs.proofs.LoadLaws.{loads}
 use Rattle.walk.proofs.right_slot.Statement.{statement}
 use Rattle.walk.proofs.right_slot.Tie as tie
 

@@ -7,7 +7,7 @@ use Prim.Native.Nat.{ℕ, _-_, _/_}
 use denote.Ref.{now}
 use lib.ListN.{length}
 use borrow.Author.Needs.{needs}
-use Rattle.turns.specs.declared.Notes.{Notes}
+use Rattle.pairs.specs.declared.Notes.{Notes}
 use Rattle.walk.proofs.ProgressLaws.{no-notes}
 use Rattle.walk.proofs.VisitLaws.{Going}
 use Rattle.walk.proofs.RoundLaws.{LentParts, AtRule, going-begun, left-choosable, right-choosable}

@@ -1,0 +1,16 @@
+-- The element around the inner word comes from hedge's wrap, and hedge's follow puts it behind the word before. Assumes nothing.
+use borrow.Author.Needs.{needs}
+use Rattle.form.proofs.closed.Statement.{statement}
+use Rattle.form.proofs.closed.Tie as tie
+
+wrap-requires : tie.Need-wrap-requires
+wrap-requires c κs = search needs
+
+follow-requires : tie.Need-follow-requires
+follow-requires c κs = search needs
+
+returns : tie.Need-returns
+returns c = cc
+
+pub closed-spec : {M : Type 1} → statement M
+closed-spec = tie.close (tie.spec wrap-requires follow-requires returns)

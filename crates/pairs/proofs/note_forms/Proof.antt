@@ -1,0 +1,76 @@
+-- Before x the forms of the marked nonterminals below it are noted, and there are at most 256 rows (FormsLaws). Assumes nothing.
+use mathlib.Core.Path.{_≡_}
+use mathlib.Core.Logic.{⊎-elim}
+use Prim.Native.Nat.{_+_, _≤_, _-_}
+use lib.ListN.{length, getD}
+use Rattle.form.specs.Held.{stackOf}
+use Rattle.pairs.specs.Turns.{FormsNoted}
+use Rattle.pairs.proofs.FormsLaws.{forms-laws, forms-next}
+use Rattle.pairs.proofs.note_forms.Statement.{statement}
+use Rattle.pairs.proofs.note_forms.Tie as tie
+
+abbrev Inv-loop : tie.InvT-loop
+Inv-loop endings marks ends starts names values table₀ m found₀ x₀ table found x =
+    (x ≤ 64) × (found .rows ≤ 256) × (length table ≡ length table₀)
+    × FormsNoted endings marks (stackOf ends names values (ends + starts)) (getD values (ends + starts) 0) table₀ (found₀ .rows)
+    (found₀ .notes) x found table
+
+abbrev μ-loop : tie.MeasureT-loop
+μ-loop endings marks ends starts names values table₀ m found₀ x₀ table found x = 64 - x
+
+loop-holds : tie.Need-loop-holds Inv-loop μ-loop
+loop-holds c = search forms-laws
+
+wide-requires : tie.Need-wide-requires Inv-loop μ-loop
+wide-requires c κs = search forms-laws
+
+marked-requires : tie.Need-marked-requires Inv-loop μ-loop
+marked-requires c κs = search forms-laws
+
+note-form-requires : tie.Need-note-form-requires Inv-loop μ-loop
+note-form-requires c κs =
+    let l = c .before .before .before .before .before .before in
+    let start = l .before .before .before in
+    (start .pre .0, (start .pre .1 .0, search forms-laws))
+
+add-x : tie.Need-add-x Inv-loop μ-loop
+add-x c = search forms-laws
+
+loop-less : tie.Need-loop-less Inv-loop μ-loop
+loop-less c = search forms-laws
+
+loop-again : tie.Need-loop-again Inv-loop μ-loop
+loop-again c =
+    let b = c .before in
+    let l = b .before .before .before in
+    ⊎-elim
+    (λ w. rw (w .6, w .7) (
+      search forms-laws,
+      search forms-laws,
+      search forms-laws,
+      search (forms-next, l .loop .inv .3, b .before .wide .ensures .0, b .marked .ensures, w .0 .taken, w .3 .ensures),
+    ))
+    (λ w. rw (w .1, w .2) (search forms-laws))
+    (c .if1 .came)
+
+same-length : tie.Need-same-length Inv-loop μ-loop
+same-length c = search forms-laws
+
+returns : tie.Need-returns Inv-loop μ-loop
+returns c = search forms-laws
+
+pub note-forms-spec : {M : Type 1} → statement M
+note-forms-spec =
+    tie.close
+    (tie.spec
+    Inv-loop
+    μ-loop
+    loop-holds
+    wide-requires
+    marked-requires
+    note-form-requires
+    add-x
+    loop-less
+    loop-again
+    same-length
+    returns)

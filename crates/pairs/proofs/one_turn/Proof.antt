@@ -1,0 +1,168 @@
+-- The two choices are loaded and joined, and the join's answer under the limit is noted (TurnLaws). Facts are named by their places, for
+-- there are more of them than a search goes through. Assumes nothing.
+use Rattle.form.proofs.TurnLaws.{kept-holds}
+use Rattle.pairs.proofs.TurnLaws.{one-turn-laws, loaded-holds, loaded-room, turn-no-left, turn-form, turn-mismatch, turn-deep}
+use Rattle.pairs.proofs.one_turn.Statement.{statement}
+use Rattle.pairs.proofs.one_turn.Tie as tie
+
+-- from the call of `then_form` back to where the left and the right choice were told and loaded, and to the start
+abbrev left : tie.After-relations2 → tie.After-a
+left c = c .before .before .before .before .before
+
+abbrev left-load : tie.After-relations2 → tie.After-load2
+left-load c = left c .before .before
+
+abbrev right : tie.After-relations2 → tie.After-b
+right c = left-load c .before .before .before .before .before
+
+abbrev right-load : tie.After-relations2 → tie.After-load
+right-load c = right c .before .before
+
+abbrev start : tie.After-relations2 → tie.Start
+start c = right-load c .before .before .before .before .before .before .before
+
+load-requires : tie.Need-load-requires
+load-requires c κs = search one-turn-laws
+
+enum-known-b : tie.Need-enum-known-b
+enum-known-b c = search one-turn-laws
+
+enum-told : tie.Need-enum-told
+enum-told c = search one-turn-laws
+
+same-length : tie.Need-same-length
+same-length c = search one-turn-laws
+
+returns : tie.Need-returns
+returns c = search one-turn-laws
+
+load-requires-2 : tie.Need-load-requires-2
+load-requires-2 c κs = search one-turn-laws
+
+enum-known-a : tie.Need-enum-known-a
+enum-known-a c = search one-turn-laws
+
+enum-told-2 : tie.Need-enum-told-2
+enum-told-2 c = search one-turn-laws
+
+same-length-2 : tie.Need-same-length-2
+same-length-2 c = search one-turn-laws
+
+returns-2 : tie.Need-returns-2
+returns-2 c =
+    search (turn-no-left, c .before .before .load2 .ensures, c .enum-told2 .given .1)
+
+add-then-form : tie.Need-add-then-form
+add-then-form c = search one-turn-laws
+
+then-form-requires : tie.Need-then-form-requires
+then-form-requires c κs = (
+  start c .pre .0,
+  (
+    search (loaded-holds, left-load c .load2 .ensures, left c .a .given .1),
+    search (loaded-room, right-load c .load .ensures, right c .b .given .1),
+  ),
+)
+
+enum-known-t : tie.Need-enum-known-t
+enum-known-t c = search one-turn-laws
+
+note-forms-requires : tie.Need-note-forms-requires
+note-forms-requires c κs =
+    let told = c .before .before .before .before in
+    let q = told .before .before in
+    let s = start (q .before) in (
+      s .pre .0 .ends-below,
+      (search (kept-holds, q .then-form .ensures, told .t .given .1), s .pre .1 .1 .1),
+    )
+
+enum-told-3 : tie.Need-enum-told-3
+enum-told-3 c = search one-turn-laws
+
+enum-told-4 : tie.Need-enum-told-4
+enum-told-4 c = search one-turn-laws
+
+noted-deep-requires : tie.Need-noted-deep-requires
+noted-deep-requires c κs = search one-turn-laws
+
+same-length-3 : tie.Need-same-length-3
+same-length-3 c = search one-turn-laws
+
+returns-3 : tie.Need-returns-3
+returns-3 c =
+    let told = c .before .before .before .before .before .before .before .before in
+    let q = told .before .before in
+    let p = q .before in
+    search (
+      turn-form,
+      left-load p .load2 .ensures,
+      left p .a .given .1,
+      right-load p .load .ensures,
+      right p .b .given .1,
+      q .then-form .ensures,
+      told .t .given .1,
+      c .before .before .before .note-forms .ensures,
+    )
+
+same-length-4 : tie.Need-same-length-4
+same-length-4 c = search one-turn-laws
+
+returns-4 : tie.Need-returns-4
+returns-4 c =
+    let q = c .before .before in
+    let p = q .before in
+    search (
+      turn-mismatch,
+      left-load p .load2 .ensures,
+      left p .a .given .1,
+      right-load p .load .ensures,
+      right p .b .given .1,
+      q .then-form .ensures,
+      c .enum-told3 .given .1,
+    )
+
+same-length-5 : tie.Need-same-length-5
+same-length-5 c = search one-turn-laws
+
+returns-5 : tie.Need-returns-5
+returns-5 c =
+    let q = c .before .before .before in
+    let p = q .before in
+    search (
+      turn-deep,
+      left-load p .load2 .ensures,
+      left p .a .given .1,
+      right-load p .load .ensures,
+      right p .b .given .1,
+      q .then-form .ensures,
+      c .before .enum-told4 .given .1,
+      c .noted-deep .ensures,
+    )
+
+pub one-turn-spec : {M : Type 1} → statement M
+one-turn-spec =
+    tie.close
+    (tie.spec
+    load-requires
+    enum-known-b
+    enum-told
+    same-length
+    returns
+    load-requires-2
+    enum-known-a
+    enum-told-2
+    same-length-2
+    returns-2
+    add-then-form
+    then-form-requires
+    enum-known-t
+    note-forms-requires
+    enum-told-3
+    enum-told-4
+    noted-deep-requires
+    same-length-3
+    returns-3
+    same-length-4
+    returns-4
+    same-length-5
+    returns-5)

@@ -1,0 +1,67 @@
+-- What is known once the file was read as sound: its numbers and its parts are the file's own, so what was asked with them is asked under
+-- the file. The premises are the facts that the code has of what it read. Assumes nothing.
+use mathlib.Core.Path.{_≡_, sym, ap, _∙_, subst}
+use mathlib.Core.List.{List}
+use Prim.Native.Nat.{ℕ, _+_, _*_, _≤_}
+use native.Mathlib.Omega.{arith}
+use Rattle.words.specs.Binoid.{Laws}
+use Rattle.hedge.specs.Schema.{RulesBelow, EndsBelow}
+use Rattle.hedge.proofs.NumberLaws.{relations-laws}
+use Rattle.template.specs.Layout.{names, states, partOf, schemaRules, endingStates}
+use Rattle.template.specs.Order.{IsSound, shapeOf, reading}
+use Rattle.template.specs.Schemas.{binoidOf}
+use Rattle.template.specs.declared.Reading.{Reading}
+use Rattle.template.specs.declared.Reading.the-variants.{Sound, Bad}
+use Rattle.template.specs.declared.Shape.{Shape}
+use Rattle.template.proofs.SoundLaws.{SoundFile, reading-sound, sound-reading, sound-file}
+use Rattle.template.proofs.GrammarLaws.{schema-rules-below, endings-below}
+
+-- the laws of a sound file's binoid
+abbrev pub lawsOf : (f : List ℕ) → IsSound f → Laws (binoidOf f)
+lawsOf f sound =
+    let s = sound-file f sound in
+    relations-laws 8 (states f) (s .few-states) (schemaRules f) (endingStates f) (schema-rules-below f s) (endings-below f s)
+
+-- a file is sound or bad
+pub sound-not-bad : (f : List ℕ) (p : ℕ) → IsSound f → reading f ≡ Bad p → ⊥
+sound-not-bad f p s e = let z : _≡_ {A = ℕ} 0 1 = cc (sym (sound-reading f s) ∙ e) in omega arith
+
+-- ---- what was read
+
+pub read-is : (f : List ℕ) (r a : Reading) → r ≡ reading f → r ≡ a → reading f ≡ a
+read-is f r a e p = sym e ∙ p
+
+module _ (f : List ℕ) (shape : Shape) (sound : reading f ≡ Sound shape) where
+  pub shape-sound : IsSound f
+  shape-sound = reading-sound f shape sound .0
+
+  shape-file : SoundFile f
+  shape-file = sound-file f shape-sound
+
+  shape-is : shape ≡ shapeOf f
+  shape-is = reading-sound f shape sound .1
+
+  pub names-are : shape .names ≡ names f
+  names-are = ap (λ (s : Shape). s .names) shape-is
+
+  module _ (q : ℕ) (h : q ≡ shape .states) where
+    pub states-are : q ≡ states f
+    states-are = h ∙ ap (λ (s : Shape). s .states) shape-is
+
+    pub states-few : q ≤ 8
+    states-few = subst (λ n. n ≤ 8) (sym states-are) (shape-file .few-states)
+
+    -- the parts
+    module _ (schema endings : List ℕ) (hs : schema ≡ partOf f (16 + 4 * shape .templates) (4 * shape .schema))
+        (he : endings ≡ partOf f (16 + 4 * shape .templates + 4 * shape .schema) (shape .endings)) where
+      pub rules-are : schema ≡ schemaRules f
+      rules-are = hs ∙ ap (λ (s : Shape). partOf f (16 + 4 * s .templates) (4 * s .schema)) shape-is
+
+      pub endings-are : endings ≡ endingStates f
+      endings-are = he ∙ ap (λ (s : Shape). partOf f (16 + 4 * s .templates + 4 * s .schema) (s .endings)) shape-is
+
+      pub rules-below : RulesBelow q schema
+      rules-below = rw (states-are, rules-are) (schema-rules-below f shape-file)
+
+      pub ends-below : EndsBelow q endings
+      ends-below = rw (states-are, endings-are) (endings-below f shape-file)
