@@ -67,26 +67,27 @@ fn show_page(file: &[u8], bytes: &[u8]) {
 }
 
 // The counts, the names and the relations, all of them.
-fn show_summary(s: summary::Summary) {
-    word(s.ends as u64);
-    word(s.starts as u64);
+fn show_summary(s: form::Summary) {
+    let c = s.counts;
+    word(c.ends as u64);
+    word(c.starts as u64);
     let names = s.names;
-    let relations = s.relations;
+    let relations = s.values;
     let mut k = 0;
-    while k < 16 {
+    while k < pieces::TAGS {
         word(long(names[k]));
         k += 1;
     }
     show_relations(relations);
 }
 
-fn show_relations(relations: [u64; 17]) {
+fn show_relations(relations: [u64; pieces::PIECES]) {
     let mut k = 0;
-    while k < 16 {
+    while k < pieces::TAGS {
         word(relations[k]);
         k += 1;
     }
-    last_word(relations[16]);
+    last_word(relations[pieces::TAGS]);
 }
 
 fn show_fragment(r: summary::FragmentReply) {
@@ -134,23 +135,22 @@ fn relation_at(bytes: &[u8], at: usize) -> u64
 }
 
 // The struct that 154 bytes from a place on hold: ends, starts, 16 names, 17 relations of eight bytes.
-fn summary_at(bytes: &[u8], at: usize) -> summary::Summary
+fn summary_at(bytes: &[u8], at: usize) -> form::Summary
     requires { ⌜ at + 154 ≤ length (now bytes) ⌝ }
 {
-    let mut names = [0u8; 16];
-    let mut relations = [0u64; 17];
+    let mut names = [0u8; pieces::TAGS];
+    let mut relations = [0u64; pieces::PIECES];
     let mut k = 0;
-    while k < 16 {
+    while k < pieces::TAGS {
         names[k] = bytes[at + 2 + k];
         relations[k] = relation_at(bytes, at + 18 + 8 * k);
         k += 1;
     }
-    relations[16] = relation_at(bytes, at + 146);
-    summary::Summary {
-        ends: numbers::wide(bytes[at]),
-        starts: numbers::wide(bytes[at + 1]),
+    relations[pieces::TAGS] = relation_at(bytes, at + 146);
+    form::Summary {
+        counts: form::counted(numbers::wide(bytes[at]), numbers::wide(bytes[at + 1])),
         names: names,
-        relations: relations,
+        values: relations,
     }
 }
 
@@ -247,8 +247,8 @@ fn least(a: usize, b: usize) -> usize
 // The worktable after a check: how many of the entries behind the rows, up to 5,120, are 0 and how many still hold what filled them; how
 // many past 5,120 do; and the rows, where they are few.
 fn show_table(table: &[u64], n: usize, images: usize, fill: u64) {
-    let end = least(n, 5120);
-    let rows = least(end, least(images, 256) * 20);
+    let end = least(n, worktable::TABLE);
+    let rows = least(end, least(images, worktable::IMAGES) * worktable::ROW);
     word(count_of(table, rows, end, 0) as u64);
     word(count_of(table, rows, end, fill) as u64);
     word(count_of(table, end, n, fill) as u64);

@@ -16,15 +16,16 @@ use Rattle.hedge.specs.Relation.{has}
 use Rattle.numbers.specs.Bits.{any, number as digits}
 use Rattle.hedge.specs.Operations.{same, linked, ended, onePair, fires, wrapped, lowest, relation}
 use Rattle.hedge.specs.Operations.{unit, compose, wrap, accepts}
+use Rattle.pieces.specs.Pieces.{pieceAt, putPiece}
 use Rattle.template.specs.Layout.{halfAt, partOf}
 use Rattle.template.specs.Order.{IsSound, firstFault, headTests, contentsTests, fieldTests, width, precedes, ascends}
 use Rattle.template.specs.Order.{entryTests, bodyTests, bodies, tests}
 use Rattle.form.specs.Held.{tagAt, stackOf}
-use Rattle.summary.specs.Packing.{count, form}
+use Rattle.form.specs.Held.{tagCount, formOf}
 use Rattle.summary.specs.Fragments.{FragmentSays}
 use Rattle.summary.specs.Joins.{SummaryUnder, JoinSays}
 use Rattle.summary.specs.Answers.{fragmentAnswer, joinAnswer, joinNumber}
-use Rattle.summary.specs.declared.Summary.{Summary}
+use Rattle.form.specs.declared.Summary.{Summary}
 use Rattle.summary.specs.declared.JoinReply.{JoinReply}
 use Rattle.summary.specs.declared.DepthReply.the-variants.{Net}
 use Rattle.summary.proofs.MeaningLaws.{fragment-under}
@@ -32,8 +33,8 @@ use Rattle.summary.proofs.UniqueLaws.{fragment-unique, join-unique, depth-uniqu
 use Rattle.summary.specs.declared.FragmentReply.{FragmentReply}
 use Rattle.page.specs.Pages.{answer, number}
 use Rattle.page.proofs.UniqueLaws.{page-unique}
-use Rattle.page.specs.Endings.{balanceOf, endOf}
 use Rattle.demands.specs.Cases.{K, Case, page, fragment, depth, joined, refused, CaseHolds, cases, AllHold}
+use Rattle.schema.proofs.SchemaLaws.{endedOf}
 use Rattle.demands.proofs.SecondLaws.{answer-summarised}
 use Rattle.demands.proofs.Findings.{classBy, classOf, findOn, findBy, findFrom, find}
 use Rattle.demands.proofs.Packings.{put, packOf}
@@ -46,7 +47,7 @@ data Line : Type 0 where
   line : List ℕ → List ℕ → List ℕ → ℤ → Line
 
 abbrev shown : List ℕ → Summary → Line
-shown answers s = line answers (take (count s) (s .names)) (take (suc (count s)) (s .relations)) (pos 0)
+shown answers s = line answers (take (tagCount (s .counts)) (s .names)) (take (suc (tagCount (s .counts))) (s .values)) (pos 0)
 
 -- as the case states it; a fragment's answer is 0
 abbrev stated : Case → Line
@@ -66,11 +67,11 @@ joinedOf u v = joinOf K (fragmentOf K u .summary) (fragmentOf K v .summary)
 abbrev run : Case → Line
 run (page bytes a n) = line (answer (pageOf K bytes) ∷ number (pageOf K bytes) ∷ []) [] [] (pos 0)
 run (fragment bytes e s names relations) =
-    let m = fragmentOf K bytes .summary in shown (answerOf bytes ∷ m .ends ∷ m .starts ∷ []) m
-run (depth bytes z) = line (answerOf bytes ∷ []) [] [] (net (form (fragmentOf K bytes .summary)))
+    let m = fragmentOf K bytes .summary in shown (answerOf bytes ∷ m .counts .ends ∷ m .counts .starts ∷ []) m
+run (depth bytes z) = line (answerOf bytes ∷ []) [] [] (net (formOf (fragmentOf K bytes .summary)))
 run (joined u v e s names relations) =
     let j = joinedOf u v in
-    shown (answerOf u ∷ answerOf v ∷ joinAnswer (j .answer) ∷ j .summary .ends ∷ j .summary .starts ∷ []) (j .summary)
+    shown (answerOf u ∷ answerOf v ∷ joinAnswer (j .answer) ∷ j .summary .counts .ends ∷ j .summary .counts .starts ∷ []) (j .summary)
 run (refused u v a n) =
     let j = joinedOf u v in line (answerOf u ∷ answerOf v ∷ joinAnswer (j .answer) ∷ joinNumber (j .answer) ∷ []) [] [] (pos 0)
 
@@ -82,7 +83,7 @@ sound = refl
 
 table : map run cases ≡ map stated cases
 unfolding cases K answerOf joinedOf fragmentOf pageOf joinOf packOf put find findFrom findBy findOn classOf classBy limit fit step meet
-    join then-tag then-value tags starts ends net stackOf tagAt balanceOf endOf halfAt partOf field bit has any same linked ended
+    join then-tag then-value tags starts ends net stackOf tagAt pieceAt putPiece endedOf halfAt partOf field bit has any same linked ended
     onePair fires wrapped digits lowest relation unit compose wrap accepts ℕ-discrete decLt
 table = refl
 
@@ -112,8 +113,8 @@ run-holds (page bytes _ _) e = λ r says. rw (page-unique K bytes r (pageOf K by
 run-holds (fragment bytes _ _ _ _) e = λ r says. rw (fragment-is bytes r says) (cc e, (cc e, cc e, cc e, cc e))
 run-holds (depth bytes _) e = λ r d says deep.
     let m = fragmentOf K bytes .summary in
-    let net-is : d ≡ Net (net (form m)) =
-    depth-unique K m d (Net (net (form m))) (rw (fragment-is bytes r says) at deep) (sound, summary-under bytes (cc e), refl) in
+    let net-is : d ≡ Net (net (formOf m)) =
+    depth-unique K m d (Net (net (formOf m))) (rw (fragment-is bytes r says) at deep) (sound, summary-under bytes (cc e), refl) in
     rw (fragment-is bytes r says, net-is) (cc e, refl, cc e)
 run-holds (joined u v _ _ _ _) e = λ r s j p q says.
     rw (join-is u v (cc e) (cc e) r s j p q says) (cc e, (cc e, cc e, cc e, cc e))

@@ -10,7 +10,8 @@ use Rattle.template.specs.Order.{IsSound}
 use Rattle.template.proofs.ShapeLaws.{sound-not-bad}
 use Rattle.trees.specs.Verdict.{Decision, met, passed, used, Decides}
 use Rattle.trees.proofs.BudgetLaws.{met-not-passed, met-not-used, passed-not-used, decides-unique}
-use Rattle.rounds.specs.Checks.{EventOf, NewOf, HasPage, Rows, shown, zeroed, Lent, Decided, CheckSays}
+use Rattle.worktable.specs.Packed.{tableLong}
+use Rattle.rounds.specs.Checks.{EventOf, NewOf, HasPage, Rows, mostRounds, afterPass, zeroed, Lent, Decided, CheckSays}
 use Rattle.rounds.specs.Answers.{answer, number, images}
 use Rattle.rounds.specs.declared.CheckReply.{CheckReply}
 use Rattle.rounds.specs.declared.CheckReply.the-variants as check
@@ -59,8 +60,8 @@ module _ (f : List ℕ) (budget : ℕ) where
     budget-used = (λ x. comes, λ x. (refl, e));
   }
 
-  pub check-exact : (t u : List ℕ) (r : CheckReply) → CheckSays f t budget r u → 5120 ≤ length t → 1 ≤ budget → budget ≤ 257 → IsSound f
-      → HasPage f → Exact f budget r
+  pub check-exact : (t u : List ℕ) (r : CheckReply) → CheckSays f t budget r u → tableLong ≤ length t → 1 ≤ budget
+      → budget ≤ mostRounds → IsSound f → HasPage f → Exact f budget r
   check-exact t u (check.Passed r n) ((_, _, _, comes), (rows, made, many, _)) room low high sound page =
       passed-exact (check.Passed r n) r refl refl comes rows made many
   check-exact t u (check.Mismatch r) ((_, _, _, comes), _) room low high sound page =
@@ -80,7 +81,7 @@ module _ (f : List ℕ) (budget : ℕ) where
 -- ---- another table, a larger budget
 
 -- the reply under another table that is long enough
-module _ (f t u : List ℕ) (budget : ℕ) (room : 5120 ≤ length t) (lent : 5120 ≤ length u) where
+module _ (f t u : List ℕ) (budget : ℕ) (room : tableLong ≤ length t) (lent : tableLong ≤ length u) where
   lent-moved : Lent f t budget → Lent f u budget
   lent-moved (_, low, high) = (lent, low, high)
 
@@ -88,7 +89,7 @@ module _ (f t u : List ℕ) (budget : ℕ) (room : 5120 ≤ length t) (lent : 51
   decided-moved d (l, sound, page, comes) = (lent-moved l, sound, page, comes)
 
   check-moved : (t′ : List ℕ) (r : CheckReply) → CheckSays f t budget r t′ → (u′ : List ℕ) × CheckSays f u budget r u′
-  check-moved t′ (check.Passed r n) (d, (rows, made, many, _)) = (shown rows u, (decided-moved (passed r) d, (rows, made, many, refl)))
+  check-moved t′ (check.Passed r n) (d, (rows, made, many, _)) = (afterPass rows u, (decided-moved (passed r) d, (rows, made, many, refl)))
   check-moved t′ (check.Mismatch r) (d, _) = (zeroed u, (decided-moved (met r 1) d, refl))
   check-moved t′ (check.Invalid r) (d, _) = (zeroed u, (decided-moved (met r 2) d, refl))
   check-moved t′ (check.TooDeep r) (d, _) = (zeroed u, (decided-moved (met r 3) d, refl))
@@ -100,7 +101,7 @@ module _ (f t u : List ℕ) (budget : ℕ) (room : 5120 ≤ length t) (lent : 51
   check-moved t′ check.ShortTable (short, _) = absurd (omega (arith, room, short))
 
 pub check-kept : (f t t′ u u′ : List ℕ) (budget more : ℕ) (r s : CheckReply) → CheckSays f t budget r t′ → CheckSays f u more s u′
-    → 5120 ≤ length t → 5120 ≤ length u → 1 ≤ budget → budget ≤ more → more ≤ 257 → (answer r ≡ 5 → ⊥) → r ≡ s
+    → tableLong ≤ length t → tableLong ≤ length u → 1 ≤ budget → budget ≤ more → more ≤ mostRounds → (answer r ≡ 5 → ⊥) → r ≡ s
 check-kept f t t′ u u′ budget more r s says other room lent low larger high decided =
     let kept = check-larger f t budget more larger low high r t′ decided says in
     let (u″, moved) = check-moved f t u more room lent t′ r kept in

@@ -12,7 +12,7 @@ use Rattle.template.specs.declared.Reading.the-variants.{Bad}
 use Rattle.summary.specs.Fragments.{FragmentAnswers}
 use Rattle.summary.specs.Joins.{SummaryUnder, JoinAnswers, DepthSays}
 use Rattle.summary.specs.Answers.{fragmentAnswer, joinAnswer, depthAnswer}
-use Rattle.summary.specs.declared.Summary.{Summary}
+use Rattle.form.specs.declared.Summary.{Summary}
 use Rattle.summary.specs.declared.FragmentAnswer.{FragmentAnswer}
 use Rattle.summary.specs.declared.FragmentAnswer.the-variants as fragment
 use Rattle.summary.specs.declared.JoinAnswer.{JoinAnswer}
@@ -23,7 +23,8 @@ use Rattle.template.proofs.ShapeLaws.{sound-not-bad}
 use Rattle.page.specs.Pages.{PageSays, answer as pageAnswer}
 use Rattle.page.specs.declared.PageReply.{PageReply}
 use Rattle.page.specs.declared.PageReply.the-variants as page
-use Rattle.rounds.specs.Checks.{HasPage, Lent, CheckSays}
+use Rattle.worktable.specs.Packed.{tableLong}
+use Rattle.rounds.specs.Checks.{HasPage, mostRounds, Lent, CheckSays}
 use Rattle.rounds.specs.Answers.{answer}
 use Rattle.rounds.specs.declared.CheckReply.{CheckReply}
 use Rattle.rounds.specs.declared.CheckReply.the-variants as check
@@ -93,8 +94,9 @@ module _ (f t : List ℕ) (budget : ℕ) where
   module _ (r : CheckReply) (lent : Lent f t budget) where
     -- a table that is long enough and a budget in range, and the two answers that are left to give
     lent-order : (answer r ≡ 9 → ⊥) → (answer r ≡ 8 → ⊥)
-        → (answer r ≡ 7) ↔ ((5120 ≤ length t) × (1 ≤ budget) × (budget ≤ 257) × (IsSound f → ⊥))
-        → (answer r ≡ 6) ↔ ((5120 ≤ length t) × (1 ≤ budget) × (budget ≤ 257) × IsSound f × (HasPage f → ⊥)) → CheckOrder f t budget r
+        → (answer r ≡ 7) ↔ ((tableLong ≤ length t) × (1 ≤ budget) × (budget ≤ mostRounds) × (IsSound f → ⊥))
+        → (answer r ≡ 6) ↔ ((tableLong ≤ length t) × (1 ≤ budget) × (budget ≤ mostRounds) × IsSound f × (HasPage f → ⊥))
+        → CheckOrder f t budget r
     lent-order nine eight file page =
         let (room, low, high) = lent in
         record {

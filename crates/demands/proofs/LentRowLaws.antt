@@ -1,17 +1,17 @@
--- What a call leaves in a row lent for a summary (specs/First.antt): a short row as it was; else the row of the reply's summary, 20 entries,
--- before the row's own rest. A refusal's summary is all zeros, and so is its row. Assumes nothing.
+-- What a call leaves in a row lent for a summary (specs/First.antt): a short row as it was; else the row of the reply's summary, all its
+-- entries, before the row's own rest. A refusal's summary is all zeros, and so is its row. Assumes nothing.
 use mathlib.Core.Path.{_≡_, refl, ap, _∙_}
 use mathlib.Core.List.{List, _++_}
 use Prim.Native.Nat.{ℕ, _≤_, _<_}
 use native.Mathlib.Decide.{decLt}
 use native.Mathlib.Omega.{arith}
 use lib.ListN.{length, drop, replicate}
-use Rattle.summary.specs.declared.Summary.{Summary}
+use Rattle.form.specs.declared.Summary.{Summary}
 use Rattle.summary.specs.Packing.{zeros}
 use Rattle.summary.specs.Answers.{fragmentAnswer, joinAnswer}
-use Rattle.worktable.specs.Packed.{bytesIn, packed}
+use Rattle.worktable.specs.Packed.{rowWidth, bytesIn, packed}
 use Rattle.worktable.proofs.PackedLaws.{packed-length}
-use Rattle.ujthanor.specs.LentRows.{rowOf, written}
+use Rattle.ujthanor.specs.LentRows.{written}
 use Rattle.ujthanor.proofs.CallLaws.{Made, fragment-made, join-made}
 use Rattle.ujthanor.specs.Calls.{ShortRow, FragmentWritten, FragmentCalled, JoinWritten, JoinCalled}
 use Rattle.demands.specs.First.{LentRow}
@@ -20,43 +20,44 @@ use Rattle.demands.proofs.WorktableLaws.{fronted-rest, fronted-length}
 
 -- ---- the row of a reply's summary
 
-zero-row : rowOf zeros ≡ replicate 20 0
+zero-row : packed 0 zeros ≡ replicate rowWidth 0
 unfolding packed bytesIn zeros
 zero-row = refl
 
-row-long : (a : ℕ) (s : Summary) → Made a s → length (rowOf s) ≡ 20
-row-long a s made = packed-length 0 (s .ends) (s .starts) (s .names) (s .relations) (made .room)
+row-long : (a : ℕ) (s : Summary) → Made a s → length (packed 0 s) ≡ rowWidth
+row-long a s made = packed-length 0 s (made .long)
 
 -- ---- the lent row
 
 module _ (row : List ℕ) (a : ℕ) (row′ : List ℕ) where
-  short-left : (n : ℕ) → length row < 20 → ShortRow row a n row′ → LentRow row a row′
+  short-left : (n : ℕ) → length row < rowWidth → ShortRow row a n row′ → LentRow row a row′
   short-left n short call =
       record {
         short-first = both (call .answer-is) short;
         short-unchanged = λ _. call .unchanged;
         refused-zero = λ _ few. absurd (omega (arith, few, call .answer-is));
-        rest-unchanged = ap (drop 20) (call .unchanged);
+        rest-unchanged = ap (drop rowWidth) (call .unchanged);
         same-length = ap length (call .unchanged);
       }
 
-  written-left : (c : ℕ) (s : Summary) → 20 ≤ length row → Made c s → a ≡ c → row′ ≡ written row s → LentRow row a row′
+  written-left : (c : ℕ) (s : Summary) → rowWidth ≤ length row → Made c s → a ≡ c → row′ ≡ written row s → LentRow row a row′
   written-left c s room made e put =
       let low = made .low in
       record {
         short-first = neither (λ d. omega (arith, low, d, e)) (λ l. omega (arith, room, l));
         short-unchanged = λ d. absurd (omega (arith, low, d, e));
         refused-zero = λ h _.
-            put ∙ ap (λ (s : Summary). written row s) (made .zero (omega (arith, h, e))) ∙ ap (λ (r : List ℕ). r ++ drop 20 row) zero-row;
-        rest-unchanged = ap (drop 20) put ∙ fronted-rest 20 (rowOf s) row (row-long c s made) room;
-        same-length = ap length put ∙ fronted-length 20 (rowOf s) row (row-long c s made) room;
+            put ∙ ap (λ (s : Summary). written row s) (made .zero (omega (arith, h, e)))
+            ∙ ap (λ (r : List ℕ). r ++ drop rowWidth row) zero-row;
+        rest-unchanged = ap (drop rowWidth) put ∙ fronted-rest rowWidth (packed 0 s) row (row-long c s made) room;
+        same-length = ap length put ∙ fronted-length rowWidth (packed 0 s) row (row-long c s made) room;
       }
 
   -- short or long enough
-  by-length : (length row < 20 → LentRow row a row′) → (20 ≤ length row → LentRow row a row′) → LentRow row a row′
-  by-length short long = at (decLt (length row) 20)
+  by-length : (length row < rowWidth → LentRow row a row′) → (rowWidth ≤ length row → LentRow row a row′) → LentRow row a row′
+  by-length short long = at (decLt (length row) rowWidth)
     where
-      at : Dec (length row < 20) → LentRow row a row′
+      at : Dec (length row < rowWidth) → LentRow row a row′
       at (yes l) = short l
       at (no l) = long (omega (arith, l))
 
@@ -64,7 +65,7 @@ pub fragment-row : (f bytes row : List ℕ) (a n : ℕ) (row′ : List ℕ) → 
 fragment-row f bytes row a n row′ call =
     by-length row a row′ (λ l. short-left row a row′ n l (call .short-row l)) (λ l. long l (call .else-written l))
   where
-    long : 20 ≤ length row → FragmentWritten f bytes row a n row′ → LentRow row a row′
+    long : rowWidth ≤ length row → FragmentWritten f bytes row a n row′ → LentRow row a row′
     long l w =
         written-left row a row′ (fragmentAnswer (w .reply .answer)) (w .reply .summary) l
         (fragment-made f bytes (w .reply) (w .says)) (w .answer-is) (w .row-is)
@@ -73,7 +74,7 @@ pub join-row : (f left right row : List ℕ) (a n : ℕ) (row′ : List ℕ) →
 join-row f left right row a n row′ call =
     by-length row a row′ (λ l. short-left row a row′ n l (call .short-row l)) (λ l. long l (call .else-written l))
   where
-    long : 20 ≤ length row → JoinWritten f left right row a n row′ → LentRow row a row′
+    long : rowWidth ≤ length row → JoinWritten f left right row a n row′ → LentRow row a row′
     long l w =
         written-left row a row′ (joinAnswer (w .reply .answer)) (w .reply .summary) l
         (join-made f (w .first) (w .second) (w .reply) (w .says)) (w .answer-is) (w .row-is)

@@ -1,78 +1,84 @@
--- The struct of a reduced form as a computation: each tag is put behind the arrays' places in use, as the code does. It packs the form,
+-- The summary of a reduced form as a computation: each tag is put behind the arrays' places in use, as the code does. It packs the form,
 -- where ends stand before starts and there are at most 16 tags: by induction along the tags, each step one law of the arrays
--- (form/proofs/HeldLaws.antt). Assumes nothing.
+-- (form/proofs/HeldLaws.antt, form/proofs/TagLaws.antt). Assumes nothing.
 use mathlib.Core.Path.{_≡_, refl, sym, ap, ap₂, _∙_}
 use Prim.Native.Nat.{ℕ, suc, _+_, _≤_, _<_}
 use native.Mathlib.Omega.{arith}
-use lib.ListN.{set, length-set, replicate}
-use lib.Seq.{getD-set-same}
+use lib.ListN.{set, replicate}
 use Rattle.words.specs.Tags.{Tag, start, end}
 use Rattle.words.specs.Reduced.{Stack, bottom, push, OnlyEnds, EndsFirst, tags}
 use Rattle.words.proofs.ReducedLaws.{ends-first-below}
-use Rattle.form.specs.Held.{stackOf}
-use Rattle.form.proofs.HeldLaws.{stack-put-start, stack-put-end, unused-put, tags-held}
-use Rattle.form.proofs.TagLaws.{holds-none}
-use Rattle.summary.specs.declared.Summary.{Summary}
-use Rattle.summary.specs.Packing.{count, form, last, Packs}
-use Rattle.summary.proofs.PackingLaws.{holds-packs}
+use Rattle.pieces.specs.declared.Piece.{Piece}
+use Rattle.pieces.specs.Pieces.{mostTags, piecesLong, putPiece}
+use Rattle.pieces.proofs.PieceLaws.{piece-same}
+use Rattle.form.specs.declared.Counts.{Counts}
+use Rattle.form.specs.declared.Summary.{Summary}
+use Rattle.form.specs.Held.{stackOf, tagCount, summaryOf, formOf, lastOf}
+use Rattle.form.proofs.HeldLaws.{stack-put-start, stack-put-end, tags-held}
+use Rattle.form.proofs.TagLaws.{holds-none, holds-put}
+use Rattle.summary.specs.Packing.{Packs}
 
--- a name behind the tags, a relation behind it, and the new numbers of ends and starts
-unfoldable pub put : ℕ → ℕ → ℕ → ℕ → Summary → Summary
-put e s a c p =
-    record { ends = e; starts = s; names = set (p .names) (count p) a; relations = set (p .relations) (e + s) c }
+abbrev counted : ℕ → ℕ → Counts
+counted e s = record { ends = e; starts = s }
 
-unfoldable pub packOf : Stack ℕ → ℕ → Summary
-packOf bottom c = record { ends = 0; starts = 0; names = replicate 16 0; relations = set (replicate 17 0) 0 c }
-packOf (push t h (start a)) c = put (packOf t h .ends) (suc (packOf t h .starts)) a c (packOf t h)
-packOf (push t h (end a)) c = put (suc (packOf t h .ends)) 0 a c (packOf t h)
+-- a name behind the tags, a piece behind it, and the new counts
+unfoldable pub put : Counts → ℕ → Piece → Summary → Summary
+put d a c p = summaryOf d (set (p .names) (tagCount (p .counts)) a) (putPiece (p .values) (tagCount d) c)
 
-module _ (p : Summary) {t : Stack ℕ} {h : ℕ} (packs : Packs p t h) where
-  packed-count : count p ≡ tags t
-  packed-count = sym (tags-held (p .ends) (count p) (p .names) (p .relations)) ∙ ap tags (packs .form-is)
+unfoldable pub packOf : Stack Piece → Piece → Summary
+packOf bottom c = summaryOf (counted 0 0) (replicate mostTags 0) (putPiece (replicate piecesLong 0) 0 c)
+packOf (push t h (start a)) c = let p = packOf t h in put (counted (p .counts .ends) (suc (p .counts .starts))) a c p
+packOf (push t h (end a)) c = let p = packOf t h in put (counted (suc (p .counts .ends)) 0) a c p
 
-  module _ (room : tags t < 16) (a c : ℕ) where
-    put-packs : (e s : ℕ) (tag : Tag) → e + s ≡ suc (count p)
-        → stackOf e (set (p .names) (count p) a) (set (p .relations) (e + s) c) (e + s) ≡ push (form p) (last p) tag
-        → Packs (put e s a c p) (push t h tag) c
+module _ (p : Summary) {t : Stack Piece} {h : Piece} (packs : Packs p t h) where
+  packed-count : tagCount (p .counts) ≡ tags t
+  packed-count =
+      sym (tags-held (p .counts .ends) (tagCount (p .counts)) (p .names) (p .values)) ∙ ap tags (packs .form-is)
+
+  module _ (room : tags t < mostTags) (a : ℕ) (c : Piece) where
+    put-packs : (d : Counts) (tag : Tag) → tagCount d ≡ suc (tagCount (p .counts))
+        → formOf (put d a c p) ≡ push (formOf p) (lastOf p) tag
+        → Packs (put d a c p) (push t h tag) c
     unfolding put
-    put-packs e s tag more is =
+    put-packs d tag more is =
         let n = packed-count in
-        let long = packs .relations-room in
         record {
-          names-room = length-set (p .names) (count p) a ∙ packs .names-room;
-          relations-room = length-set (p .relations) (e + s) c ∙ long;
-          few = omega arith;
+          holds = holds-put p d (tagCount d) a c refl more (omega arith) (packs .holds);
           form-is = is ∙ ap₂ (λ t h. push t h tag) (packs .form-is) (packs .last-is);
-          last-is = getD-set-same (p .relations) (e + s) c 0 (omega arith);
-          unused = unused-put (count p) (e + s) a c (p .names) (p .relations) more (packs .unused);
+          last-is = piece-same (p .values) (tagCount d) c (packs .holds .values-long) (omega arith);
         }
 
-    start-packs : Packs (put (p .ends) (suc (p .starts)) a c p) (push t h (start a)) c
+    start-packs : Packs (put (counted (p .counts .ends) (suc (p .counts .starts))) a c p) (push t h (start a)) c
+    unfolding put
     start-packs =
         let n = packed-count in
-        let long = packs .names-room in
-        put-packs (p .ends) (suc (p .starts)) (start a) (omega arith)
-        (stack-put-start (p .ends) (count p) (p .ends + suc (p .starts)) a c (p .names) (p .relations) (omega arith) (omega arith)
-        (omega arith))
+        let long = packs .holds .names-long in
+        let e = p .counts .ends in
+        let s = suc (p .counts .starts) in
+        put-packs (counted e s) (start a) (omega arith)
+        (stack-put-start e (tagCount (p .counts)) (e + s) a c (p .names) (p .values) (omega arith) (omega arith) (omega arith))
 
-    end-packs : p .starts ≡ 0 → Packs (put (suc (p .ends)) 0 a c p) (push t h (end a)) c
+    end-packs : p .counts .starts ≡ 0 → Packs (put (counted (suc (p .counts .ends)) 0) a c p) (push t h (end a)) c
+    unfolding put
     end-packs none =
         let n = packed-count in
-        let long = packs .names-room in
-        let same : suc (p .ends) + 0 ≡ suc (p .ends) = omega arith in
-        put-packs (suc (p .ends)) 0 (end a) (omega arith)
+        let long = packs .holds .names-long in
+        let e = p .counts .ends in
+        let same : suc e + 0 ≡ suc e = omega arith in
+        put-packs (counted (suc e) 0) (end a) (omega arith)
         (rw same
-        (stack-put-end (p .ends) (count p) (suc (p .ends)) a c (p .names) (p .relations) (omega arith) (omega arith) (omega arith)))
+        (stack-put-end e (tagCount (p .counts)) (suc e) a c (p .names) (p .values) (omega arith) (omega arith) (omega arith)))
 
-only-ends-startless : (t : Stack ℕ) (c : ℕ) → OnlyEnds t → packOf t c .starts ≡ 0
+only-ends-startless : (t : Stack Piece) (c : Piece) → OnlyEnds t → packOf t c .counts .starts ≡ 0
 unfolding packOf put
 only-ends-startless bottom c e = refl
 only-ends-startless (push t h (start a)) c e = absurd e
 only-ends-startless (push t h (end a)) c e = refl
 
-pub pack-packs : (t : Stack ℕ) (c : ℕ) → EndsFirst t → tags t ≤ 16 → Packs (packOf t c) t c
+pub pack-packs : (t : Stack Piece) (c : Piece) → EndsFirst t → tags t ≤ mostTags → Packs (packOf t c) t c
 unfolding packOf tags stackOf
-pack-packs bottom c f l = holds-packs 0 0 _ _ (holds-none c)
+pack-packs bottom c f l =
+    record { holds = holds-none c; form-is = refl; last-is = piece-same (replicate piecesLong 0) 0 c refl (omega arith) }
 pack-packs (push t h (start a)) c f l = start-packs (packOf t h) (pack-packs t h f (omega arith)) (omega arith) a c
 pack-packs (push t h (end a)) c f l =
     end-packs (packOf t h) (pack-packs t h (ends-first-below t h (end a) f) (omega arith)) (omega arith) a c

@@ -10,15 +10,17 @@ use Rattle.words.specs.Balance.{Mismatched}
 use Rattle.words.specs.Reduced.{Stack, Reduced}
 use Rattle.words.proofs.MismatchLaws.{one-of, balanced-not-mismatched}
 use Rattle.hedge.specs.Schema.{Valid}
+use Rattle.pieces.specs.declared.Piece.{Piece}
+use Rattle.pieces.specs.Pieces.{mostTags}
 use Rattle.template.specs.Order.{IsSound}
-use Rattle.template.specs.Schemas.{schemaOf, binoidOf}
-use Rattle.template.proofs.ShapeLaws.{lawsOf}
+use Rattle.schema.specs.Schemas.{schemaOf, binoidOf}
+use Rattle.schema.proofs.SchemaLaws.{lawsOf, PageForm, form-decided, valid-form, valid-decided}
 use Rattle.trees.specs.Events.{Pair}
 use Rattle.trees.specs.Verdict.{Decides, passed}
 use Rattle.trees.proofs.VerdictLaws.{pass-valid}
-use Rattle.rounds.specs.Checks.{PairRow, RuleOf, ImageOf, EventOf, NewOf, Rows}
+use Rattle.worktable.specs.Packed.{mostImages, PairRow}
+use Rattle.rounds.specs.Checks.{RuleOf, ImageOf, EventOf, NewOf, Rows}
 use Rattle.rounds.proofs.ListedLaws.{row-one-pair}
-use Rattle.rounds.proofs.FormLaws.{PageForm, form-decided, valid-form}
 use Rattle.demands.specs.Third.{Produces}
 
 -- ---- what cannot fail
@@ -35,15 +37,11 @@ all-unfailing {A} P (y ∷ ys) each fails =
 -- ---- valid or not
 
 module _ (f : List ℕ) (sound : IsSound f) where
-  valid-decided : (w : List Tag) → Dec (Valid (schemaOf f) w)
-  valid-decided w = from (one-of (binoidOf f) (lawsOf f sound) w)
+  either : (w : List Tag) → Dec (Valid (schemaOf f) w)
+  either w = from (one-of (binoidOf f) (lawsOf f sound) w)
     where
-      by-form : (s : Stack ℕ) (c : ℕ) → Reduced (binoidOf f) w s c → Dec (PageForm f s c) → Dec (Valid (schemaOf f) w)
-      by-form s c form (yes v) = yes (valid-form f sound w s c form .1 v)
-      by-form s c form (no v) = no (λ valid. v (valid-form f sound w s c form .0 valid))
-
-      from : ((s : Stack ℕ) × (c : ℕ) × Reduced (binoidOf f) w s c) ⊎ Mismatched w → Dec (Valid (schemaOf f) w)
-      from (inl (s, c, form)) = by-form s c form (form-decided f s c)
+      from : ((s : Stack Piece) × (c : Piece) × Reduced (binoidOf f) w s c) ⊎ Mismatched w → Dec (Valid (schemaOf f) w)
+      from (inl (s, c, form)) = valid-decided f sound w s c form
       from (inr m) = no (λ valid. balanced-not-mismatched (binoidOf f) (lawsOf f sound) (valid .0) m)
 
   -- ---- the round that passed
@@ -51,7 +49,7 @@ module _ (f : List ℕ) (sound : IsSound f) where
   module _ (budget r : ℕ) (decides : Decides (EventOf f) (NewOf f) budget (passed r)) (rows : List (List ℕ)) (made : Rows f r rows) where
     -- the row's image was there the round before
     abbrev ImagedBefore : List ℕ → Type 0
-    ImagedBefore row = (p : Pair ℕ) × ImageOf f (pred r) p × PairRow row p
+    ImagedBefore row = (p : Pair Piece) × ImageOf f (pred r) p × PairRow row p
 
     each-before : (row : List ℕ) → List·Memᴰ row rows → (ImagedBefore row → ⊥) → ⊥
     each-before row m fails =
@@ -59,19 +57,19 @@ module _ (f : List ℕ) (sound : IsSound f) where
         let (p, i, c) = made .each-image row m in
         none (record { image = p; here = i; not-before = λ j. fails (p, j, c) })
 
-    all-before : ((row : List ℕ) → List·Memᴰ row rows → ImagedBefore row) → (p : Pair ℕ) → ImageOf f r p → ImageOf f (pred r) p
+    all-before : ((row : List ℕ) → List·Memᴰ row rows → ImagedBefore row) → (p : Pair Piece) → ImageOf f r p → ImageOf f (pred r) p
     all-before before p i =
         let (row, m, c) = made .every-image p i in
         let (q, j, d) = before row m in
         subst (ImageOf f (pred r)) (row-one-pair row q p d c) j
 
     pub passed-valid : (w : List Tag) → Produces f w → Valid (schemaOf f) w
-    passed-valid w (n, tree) = from (valid-decided w)
+    passed-valid w (n, tree) = from (either w)
       where
         from : Dec (Valid (schemaOf f) w) → Valid (schemaOf f) w
         from (yes v) = v
         from (no v) =
             let (low, _, _, quiet, _) = decides in
             absurd (all-unfailing ImagedBefore rows each-before (λ before.
-            v (pass-valid (RuleOf f) (binoidOf f) (Valid (schemaOf f)) 16 256 (lawsOf f sound) (PageForm f) (valid-form f sound)
-            (form-decided f) r low quiet (all-before before) tree .0)))
+            v (pass-valid (RuleOf f) (binoidOf f) (Valid (schemaOf f)) mostTags mostImages (lawsOf f sound) (PageForm f)
+            (valid-form f sound) (form-decided f) r low quiet (all-before before) tree .0)))

@@ -4,7 +4,7 @@ use mathlib.Core.List.{List, [], _∷_}
 use Prim.Native.Nat.{ℕ, _+_}
 use native.Mathlib.Omega.{arith}
 use Rattle.words.specs.Tags.{Tag, start, end, Spells, start-byte, end-byte}
-use Rattle.template.specs.Layout.{names, nonterminals}
+use Rattle.template.specs.Layout.{nameCount, nonterminals}
 use Rattle.template.specs.Order.{IsSound}
 use Rattle.template.specs.Grammar.{Symbol}
 use Rattle.template.proofs.SoundLaws.{SoundFile, sound-file}
@@ -20,12 +20,12 @@ abbrev pub Written : ℕ → List Tag → Type 0
 Written A w = (bytes : List ℕ) × Spelled A bytes w
 
 module _ (f : List ℕ) (file : SoundFile f) where
-  tag-spelled : (t : Tag) → TagBelow (names f) t → (b : ℕ) × Spells (names f) b t
+  tag-spelled : (t : Tag) → TagBelow (nameCount f) t → (b : ℕ) × Spells (nameCount f) b t
   tag-spelled (start a) h = (a, start-byte (h, omega (arith, h, file .few-names)))
   tag-spelled (end a) h = (32 + a, end-byte (h, omega (arith, h, file .few-names)))
 
-  yields-written : {ss : List Symbol} {w : List Tag} {n : ℕ} → SymbolsBelow (names f) (nonterminals f) ss → Yields (RuleOf f) ss w n
-      → Written (names f) w
+  yields-written : {ss : List Symbol} {w : List Tag} {n : ℕ} → SymbolsBelow (nameCount f) (nonterminals f) ss → Yields (RuleOf f) ss w n
+      → Written (nameCount f) w
   yields-written below yields-nothing = ([], spelled-none)
   yields-written (here, below) (yields-tag {t = t} p) =
       let (b, s) = tag-spelled t here in
@@ -35,9 +35,9 @@ module _ (f : List ℕ) (file : SoundFile f) where
       let (_, _, inner) = gives-below f file x rhs rule in
       let (u, s) = yields-written inner p in
       let (v, r) = yields-written below q in
-      (_, spelled-append (names f) s r)
+      (_, spelled-append (nameCount f) s r)
 
-pub produced-written : (f : List ℕ) → IsSound f → (w : List Tag) → Produces f w → Written (names f) w
+pub produced-written : (f : List ℕ) → IsSound f → (w : List Tag) → Produces f w → Written (nameCount f) w
 produced-written f sound w (n, tree) =
     let file = sound-file f sound in
     yields-written f file (file .some-nonterminal, tt) tree

@@ -1,6 +1,6 @@
 -- The replies to a page, a fragment and a join under a sound file as computations, and that each meets its promise: what reading finds is
--- found (proofs/Findings.antt), a form is packed (proofs/Packings.antt), and a page's two tests are those of the page crate.
--- Assumes nothing.
+-- found (proofs/Findings.antt), a form is packed (proofs/Packings.antt), and a page's two tests are made with the schema itself
+-- (schema/proofs/SchemaLaws.antt). Assumes nothing.
 use mathlib.Core.Path.{_≡_, refl, subst}
 use mathlib.Core.List.{List}
 use Prim.Native.Nat.{ℕ, _≤_}
@@ -9,47 +9,47 @@ use Rattle.words.specs.Reader.{Limited, fits, differs, too-deep, limit}
 use Rattle.words.proofs.ReducedLaws.{reduced-ends-first}
 use Rattle.words.proofs.JoinLaws.{join-ends-first}
 use Rattle.words.proofs.LimitLaws.{Answers, limit-iff}
-use Rattle.template.specs.Layout.{names, endingStates}
+use Rattle.pieces.specs.declared.Piece.{Piece}
+use Rattle.pieces.specs.Pieces.{mostTags}
+use Rattle.template.specs.Layout.{nameCount}
 use Rattle.template.specs.Order.{IsSound}
 use Rattle.form.proofs.HeldLaws.{ends-first-held}
 use Rattle.reader.specs.Reads.{Found, whole, refused, no-tag, mismatch, too-many}
 use Rattle.reader.proofs.FormLaws.{form-unique}
 use Rattle.reader.proofs.ReadsLaws.{reads-finding, readable-whole}
-use Rattle.summary.specs.declared.Summary.{Summary}
-use Rattle.summary.specs.declared.FragmentAnswer.{FragmentAnswer}
+use Rattle.form.specs.declared.Summary.{Summary}
+use Rattle.form.specs.Held.{tagCount, formOf, lastOf}
 use Rattle.summary.specs.declared.FragmentAnswer.the-variants as fragment
 use Rattle.summary.specs.declared.FragmentReply.{FragmentReply}
 use Rattle.summary.specs.declared.JoinAnswer.the-variants as joined
 use Rattle.summary.specs.declared.JoinReply.{JoinReply}
-use Rattle.summary.specs.Packing.{count, form, last, zeros}
-use Rattle.template.specs.Schemas.{binoidOf}
+use Rattle.summary.specs.Packing.{zeros}
+use Rattle.schema.specs.Schemas.{binoidOf}
 use Rattle.summary.specs.Fragments.{ReadUnder, FragmentSays}
 use Rattle.summary.specs.Joins.{SummaryUnder, outcomeOf, JoinSays}
-use Rattle.template.proofs.ShapeLaws.{lawsOf}
+use Rattle.schema.proofs.SchemaLaws.{lawsOf, endedOf, ended-means}
 use Rattle.page.specs.declared.PageReply.{PageReply}
 use Rattle.page.specs.declared.PageReply.the-variants as page
-use Rattle.page.specs.Pages.{PageSays}
-use Rattle.page.specs.Endings.{balanceOf, endOf}
-use Rattle.page.proofs.PageLaws.{summarised-page, bad-page, no-tag-page, mismatch-page, deep-page}
+use Rattle.page.specs.Pages.{PageSays, replyOf}
+use Rattle.page.proofs.PageLaws.{end-page}
 use Rattle.demands.proofs.Findings.{find, find-reads}
 use Rattle.demands.proofs.Packings.{packOf, pack-packs}
 
 -- ---- from what was found
 
-abbrev pub fragmentReply : Found ℕ → FragmentReply
+abbrev pub fragmentReply : Found Piece → FragmentReply
 fragmentReply (whole t c) = record { answer = fragment.Summarised; summary = packOf t c }
 fragmentReply (refused no-tag i) = record { answer = fragment.NotATag i; summary = zeros }
 fragmentReply (refused mismatch i) = record { answer = fragment.Mismatch i; summary = zeros }
 fragmentReply (refused too-many i) = record { answer = fragment.TooDeep i; summary = zeros }
 
-abbrev pub pageReply : PageReply → FragmentAnswer → PageReply
-pageReply ended fragment.Summarised = ended
-pageReply ended (fragment.BadFile i) = page.BadFile i
-pageReply ended (fragment.NotATag i) = page.NotATag i
-pageReply ended (fragment.Mismatch i) = page.Mismatch i
-pageReply ended (fragment.TooDeep i) = page.TooDeep i
+abbrev pub pageReply : List ℕ → Found Piece → PageReply
+pageReply f (whole t c) = replyOf (endedOf f t c)
+pageReply f (refused no-tag i) = page.NotATag i
+pageReply f (refused mismatch i) = page.Mismatch i
+pageReply f (refused too-many i) = page.TooDeep i
 
-abbrev pub joinReply : Limited ℕ → JoinReply
+abbrev pub joinReply : Limited Piece → JoinReply
 joinReply (fits t c) = record { answer = joined.Joined; summary = packOf t c }
 joinReply (differs a b) = record { answer = joined.Mismatch; summary = zeros }
 joinReply too-deep = record { answer = joined.TooDeep; summary = zeros }
@@ -58,23 +58,23 @@ joinReply too-deep = record { answer = joined.TooDeep; summary = zeros }
 
 module _ (f : List ℕ) where
   unfoldable pub fragmentOf : List ℕ → FragmentReply
-  fragmentOf bytes = fragmentReply (find (names f) (binoidOf f) 16 bytes)
+  fragmentOf bytes = fragmentReply (find (nameCount f) (binoidOf f) mostTags bytes)
 
   unfoldable pub pageOf : List ℕ → PageReply
-  pageOf bytes = pageReply (endOf (endingStates f) (balanceOf (fragmentOf bytes .summary))) (fragmentOf bytes .answer)
+  pageOf bytes = pageReply f (find (nameCount f) (binoidOf f) mostTags bytes)
 
   unfoldable pub joinOf : Summary → Summary → JoinReply
-  joinOf left right = joinReply (limit (binoidOf f) 16 (outcomeOf f left right))
+  joinOf left right = joinReply (limit (binoidOf f) mostTags (outcomeOf f left right))
 
   -- ---- each meets its promise
 
   module _ (sound : IsSound f) where
-    found-says : (bytes : List ℕ) (found : Found ℕ) → ReadUnder f bytes found → FragmentSays f bytes (fragmentReply found)
+    found-says : (bytes : List ℕ) (found : Found Piece) → ReadUnder f bytes found → FragmentSays f bytes (fragmentReply found)
     found-says bytes (whole t c) read =
-        let (all, formed) = reads-finding (names f) (binoidOf f) 16 read in
-        let readable = readable-whole (names f) (binoidOf f) 16 all in
-        let same : readable .tags-left ≡ t = form-unique (names f) (binoidOf f) 16 (lawsOf f sound) (readable .form) formed .0 in
-        let few : tags t ≤ 16 = subst (λ t. tags t ≤ 16) same (readable .few) in
+        let (all, formed) = reads-finding (nameCount f) (binoidOf f) mostTags read in
+        let readable = readable-whole (nameCount f) (binoidOf f) mostTags all in
+        let same : readable .tags-left ≡ t = form-unique (nameCount f) (binoidOf f) mostTags (lawsOf f sound) (readable .form) formed .0 in
+        let few : tags t ≤ mostTags = subst (λ t. tags t ≤ mostTags) same (readable .few) in
         (sound, (t, c, read, pack-packs t c (reduced-ends-first (binoidOf f) (formed .reduced)) few))
     found-says bytes (refused no-tag i) read = (sound, read, refl)
     found-says bytes (refused mismatch i) read = (sound, read, refl)
@@ -83,31 +83,33 @@ module _ (f : List ℕ) where
     pub fragment-says : (bytes : List ℕ) → FragmentSays f bytes (fragmentOf bytes)
     unfolding fragmentOf
     fragment-says bytes =
-        found-says bytes (find (names f) (binoidOf f) 16 bytes) (find-reads (names f) (binoidOf f) 16 (lawsOf f sound) bytes)
+        found-says bytes (find (nameCount f) (binoidOf f) mostTags bytes) (find-reads (nameCount f) (binoidOf f) mostTags (lawsOf f sound) bytes)
 
-    answered-says : (bytes : List ℕ) (r : FragmentReply) → FragmentSays f bytes r → (a : FragmentAnswer) → r .answer ≡ a
-        → PageSays f bytes (pageReply (endOf (endingStates f) (balanceOf (r .summary))) a)
-    answered-says bytes r says fragment.Summarised e = summarised-page f bytes r says e _ refl
-    answered-says bytes r says (fragment.BadFile i) e = bad-page f bytes r says i e
-    answered-says bytes r says (fragment.NotATag i) e = no-tag-page f bytes r says i e
-    answered-says bytes r says (fragment.Mismatch i) e = mismatch-page f bytes r says i e
-    answered-says bytes r says (fragment.TooDeep i) e = deep-page f bytes r says i e
+    found-page : (bytes : List ℕ) (found : Found Piece) → ReadUnder f bytes found → PageSays f bytes (pageReply f found)
+    found-page bytes (whole t c) read =
+        let (all, formed) = reads-finding (nameCount f) (binoidOf f) mostTags read in
+        let w = formed .word in
+        end-page f bytes w (endedOf f t c) sound all (formed .spelled) (ended-means f sound w t c (formed .reduced))
+    found-page bytes (refused no-tag i) read = (sound, read)
+    found-page bytes (refused mismatch i) read = (sound, read)
+    found-page bytes (refused too-many i) read = (sound, read)
 
     pub page-says : (bytes : List ℕ) → PageSays f bytes (pageOf bytes)
     unfolding pageOf
-    page-says bytes = answered-says bytes (fragmentOf bytes) (fragment-says bytes) (fragmentOf bytes .answer) refl
+    page-says bytes =
+        found-page bytes (find (nameCount f) (binoidOf f) mostTags bytes) (find-reads (nameCount f) (binoidOf f) mostTags (lawsOf f sound) bytes)
 
     module _ (left right : Summary) (l : SummaryUnder f left) (r : SummaryUnder f right) where
-      limited-says : (o : Limited ℕ) → Answers 16 (outcomeOf f left right) o → JoinSays f left right (joinReply o)
+      limited-says : (o : Limited Piece) → Answers mostTags (outcomeOf f left right) o → JoinSays f left right (joinReply o)
       limited-says (fits t c) (e, few) =
-          let first = ends-first-held (left .ends) (count left) (left .names) (left .relations) in (
+          let first = ends-first-held (left .counts .ends) (tagCount (left .counts)) (left .names) (left .values) in (
             (sound, l, r),
             (
               t,
               c,
               e,
               few,
-              pack-packs t c (join-ends-first (binoidOf f) (form left) (form right) t (last left) (last right) c first e) few,
+              pack-packs t c (join-ends-first (binoidOf f) (formOf left) (formOf right) t (lastOf left) (lastOf right) c first e) few,
             ),
           )
       limited-says (differs a b) e = ((sound, l, r), (a, b, e), refl)
@@ -116,5 +118,5 @@ module _ (f : List ℕ) where
       pub join-says : JoinSays f left right (joinOf left right)
       unfolding joinOf
       join-says =
-          let o = limit (binoidOf f) 16 (outcomeOf f left right) in
-          limited-says o (limit-iff (binoidOf f) 16 (outcomeOf f left right) o .0 refl)
+          let o = limit (binoidOf f) mostTags (outcomeOf f left right) in
+          limited-says o (limit-iff (binoidOf f) mostTags (outcomeOf f left right) o .0 refl)

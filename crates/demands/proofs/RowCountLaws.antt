@@ -1,6 +1,6 @@
 -- How many rows a pass leaves, and how wide they are. Ascending rows differ, and rows that differ pack different images; so more than 256
 -- rows would be more than 256 images, which is an event, and a round that passes has none. Each row has 20 entries. Assumes nothing.
-use mathlib.Core.Path.{_≡_, refl, ap, _∙_}
+use mathlib.Core.Path.{_≡_, refl, ap}
 use mathlib.Core.List.{List, [], _∷_, List·Memᴰ, List·Memᴰ·head, List·Memᴰ·tail, List·Memᴰ·not-nil, List·Memᴰ·cases-cons, Memᴰ·cast}
 use mathlib.Core.Logic.{⊎-elim}
 use Prim.Native.Nat.{ℕ, suc, _≤_, _<_}
@@ -10,12 +10,14 @@ use lib.ListN.{length}
 use Rattle.trees.specs.Events.{Pair, Distinct, distinct-none, distinct-more}
 use Rattle.trees.specs.Verdict.{Quiet}
 use Rattle.trees.proofs.TableLaws.{rows-crowded}
-use Rattle.worktable.specs.Tables.{Above, Ascending}
-use Rattle.worktable.proofs.OrderLaws.{less-irrefl}
-use Rattle.worktable.proofs.SortLaws.{first-less}
-use Rattle.worktable.proofs.PackedLaws.{packed-length}
-use Rattle.worktable.proofs.TableLaws.{Wide}
-use Rattle.rounds.specs.Checks.{PairRow, ImageOf, EventOf, NewOf, Rows}
+use Rattle.rows.specs.Tables.{Above, Ascending}
+use Rattle.rows.proofs.OrderLaws.{less-irrefl}
+use Rattle.rows.proofs.SortLaws.{first-less}
+use Rattle.pieces.specs.declared.Piece.{Piece}
+use Rattle.worktable.specs.Packed.{rowWidth, mostImages, PairRow}
+use Rattle.worktable.proofs.RowLaws.{row-length}
+use Rattle.rows.proofs.TableLaws.{Wide}
+use Rattle.rounds.specs.Checks.{ImageOf, EventOf, NewOf, Rows}
 use Rattle.rounds.proofs.ListedLaws.{pair-one-row}
 
 -- ---- ascending rows differ
@@ -25,18 +27,18 @@ first-absent x xs a s m = less-irrefl x (first-less x xs a s x m)
 
 -- ---- the images that rows pack
 
-module _ (I : Pair ℕ → Type 0) where
+module _ (I : Pair Piece → Type 0) where
   -- each row packs an image
   abbrev Imaged : List (List ℕ) → Type 0
-  Imaged rows = (row : List ℕ) → List·Memᴰ row rows → (p : Pair ℕ) × I p × PairRow row p
+  Imaged rows = (row : List ℕ) → List·Memᴰ row rows → (p : Pair Piece) × I p × PairRow row p
 
   -- as many images as rows, each once
   record Unpacked (rows : List (List ℕ)) : Type 0 where
-    pairs : List (Pair ℕ)
+    pairs : List (Pair Piece)
     count : length pairs ≡ length rows
     distinct : Distinct pairs
-    are-images : (p : Pair ℕ) → List·Memᴰ p pairs → I p
-    have-rows : (p : Pair ℕ) → List·Memᴰ p pairs → (row : List ℕ) × List·Memᴰ row rows × PairRow row p
+    are-images : (p : Pair Piece) → List·Memᴰ p pairs → I p
+    have-rows : (p : Pair Piece) → List·Memᴰ p pairs → (row : List ℕ) × List·Memᴰ row rows × PairRow row p
 
   unpacked : (rows : List (List ℕ)) → Ascending rows → Imaged rows → Unpacked rows
   unpacked [] s imaged = record {
@@ -65,17 +67,17 @@ module _ (I : Pair ℕ → Type 0) where
 -- ---- the rows of a round
 
 module _ (f : List ℕ) (r : ℕ) (rows : List (List ℕ)) (made : Rows f r rows) where
-  pub rows-few : Quiet (EventOf f) (NewOf f) r → length rows ≤ 256
-  rows-few quiet = from (decLt 256 (length rows))
+  pub rows-few : Quiet (EventOf f) (NewOf f) r → length rows ≤ mostImages
+  rows-few quiet = from (decLt mostImages (length rows))
     where
-      from : Dec (256 < length rows) → length rows ≤ 256
+      from : Dec (mostImages < length rows) → length rows ≤ mostImages
       from (no l) = omega (arith, l)
       from (yes l) =
           let u = unpacked (ImageOf f r) rows (made .ascending) (made .each-image) in
           let n : length (u .pairs) ≡ length rows = u .count in
           absurd (quiet 4 (rows-crowded (u .pairs) (u .distinct) (u .are-images) (omega (arith, l, n))))
 
-  pub rows-are-wide : Wide rows
+  pub rows-are-wide : Wide rowWidth rows
   rows-are-wide row m =
       let (p, i, c) = made .each-image row m in
-      ap length (c .row-is) ∙ packed-length (p .of) (c .ends) (c .starts) (c .names) (c .values) (c .values-room)
+      row-length row (p .of) (p .form) (p .last) c

@@ -6,20 +6,22 @@ use mathlib.Core.List.{List, _++_}
 use mathlib.Core.Logic.{_↔_}
 use Prim.Native.Nat.{ℕ}
 use native.Mathlib.Omega.{arith}
-use Rattle.template.specs.Layout.{names}
+use Rattle.pieces.specs.Pieces.{mostTags}
+use Rattle.template.specs.Layout.{nameCount}
 use Rattle.template.specs.Order.{IsSound}
 use Rattle.reader.specs.Reads.{AllReadable, Reason, refused}
 use Rattle.reader.proofs.SpelledLaws.{spelled-append}
 use Rattle.reader.proofs.ReadsLaws.{reads-finding, all-readable-unrefused}
-use Rattle.summary.specs.declared.Summary.{Summary}
+use Rattle.form.specs.declared.Summary.{Summary}
 use Rattle.summary.specs.declared.FragmentAnswer.{FragmentAnswer}
 use Rattle.summary.specs.declared.FragmentAnswer.the-variants as fragment
 use Rattle.summary.specs.declared.JoinAnswer.{JoinAnswer}
 use Rattle.summary.specs.declared.JoinAnswer.the-variants as joined
-use Rattle.template.specs.Schemas.{binoidOf}
+use Rattle.schema.specs.Schemas.{binoidOf}
 use Rattle.summary.specs.Fragments.{ReadUnder, FragmentAnswers}
 use Rattle.summary.specs.Answers.{fragmentAnswer, joinAnswer}
-use Rattle.template.proofs.ShapeLaws.{lawsOf, sound-not-bad}
+use Rattle.schema.proofs.SchemaLaws.{lawsOf}
+use Rattle.template.proofs.ShapeLaws.{sound-not-bad}
 use Rattle.summary.proofs.MeaningLaws.{fragment-sound, fragment-summary-of, joined-iff, joined-summary-of, mismatch-iff, deep-iff}
 use Rattle.page.specs.declared.PageReply.{PageReply}
 use Rattle.page.specs.declared.PageReply.the-variants as page
@@ -65,26 +67,25 @@ numbered n back h = (λ e. h .0 (back e), λ p. ap n (h .1 p))
 pages-judged : PagesJudged
 pages-judged f bytes r says =
     let (to, from) = page-valid f bytes r says in (
-      λ e. let (sound, all, (w, spelled, (balanced, derived))) = to (answer-valid r e) in
-          ((sound, all), (w, spelled, balanced, derived)),
-      λ ((sound, all), (w, spelled, balanced, derived)). ap answer (from (sound, all, (w, spelled, (balanced, derived)))),
+      λ e. let (sound, all, valid) = to (answer-valid r e) in ((sound, all), valid),
+      λ ((sound, all), valid). ap answer (from (sound, all, valid)),
     )
 
 -- ---- fragments
 
 module _ (f bytes : List ℕ) where
-  readable-not-refused : IsSound f → AllReadable (names f) (binoidOf f) 16 bytes → (why : Reason) (i : ℕ)
+  readable-not-refused : IsSound f → AllReadable (nameCount f) (binoidOf f) mostTags bytes → (why : Reason) (i : ℕ)
       → ReadUnder f bytes (refused why i) → ⊥
   readable-not-refused sound all why i read =
-      let (before, b, after, e, k, r, h) = reads-finding (names f) (binoidOf f) 16 read in
-      all-readable-unrefused (names f) (binoidOf f) 16 (lawsOf f sound) bytes before b after all e h
+      let (before, b, after, e, k, r, h) = reads-finding (nameCount f) (binoidOf f) mostTags read in
+      all-readable-unrefused (nameCount f) (binoidOf f) mostTags (lawsOf f sound) bytes before b after all e h
 
   summarised-unrefused : (s : Summary) → FragmentAnswers f bytes fragment.Summarised s → Unrefused f bytes
-  summarised-unrefused s (sound, (t, c, read, p)) = (sound, reads-finding (names f) (binoidOf f) 16 read .0)
+  summarised-unrefused s (sound, (t, c, read, p)) = (sound, reads-finding (nameCount f) (binoidOf f) mostTags read .0)
 
   summarised-form : (s : Summary) → FragmentAnswers f bytes fragment.Summarised s → HoldsForm f bytes s
   summarised-form s (sound, (t, c, read, p)) =
-      let h = reads-finding (names f) (binoidOf f) 16 read .1 in (h .word, t, c, h .spelled, h .reduced, p)
+      let h = reads-finding (nameCount f) (binoidOf f) mostTags read .1 in (h .word, t, c, h .spelled, h .reduced, p)
 
   unrefused-summarised : (a : FragmentAnswer) (s : Summary) → FragmentAnswers f bytes a s → Unrefused f bytes → fragmentAnswer a ≡ 0
   unrefused-summarised fragment.Summarised s says h = refl
@@ -109,7 +110,7 @@ fragments-joined f u v r s j left right lr rs says =
     let sound = fragment-sound f u r left l in
     let (w, p, h) = fragment-summary-of f u r left l in
     let (z, q, k) = fragment-summary-of f v s right (answer-summarised (s .answer) rs) in
-    let spelled = spelled-append (names f) p q in
+    let spelled = spelled-append (nameCount f) p q in
     let (none, clash, deep) = answer-join (j .answer) in
     record {
       word = w ++ z;

@@ -1,15 +1,17 @@
 -- Demand 3 (specs/Third.antt). A pass: every page that can be produced is valid (PassedLaws), spelled by bytes (ProducedLaws) and read as
 -- valid (ValidReadLaws). A mismatch or an invalid page of a round is one of a string of the start (trees/proofs/VerdictLaws.antt). What the
--- rounds answer is exact (ExactLaws). Replies of other numbers are ruled out one by one. Assumes nothing.
+-- rounds answer is exact (ExactLaws). Replies of other numbers are in-range out one by one. Assumes nothing.
 use mathlib.Core.Path.{_≡_}
 use mathlib.Core.List.{List}
 use mathlib.Core.Logic.{_⊎_, inl, inr}
 use Prim.Native.Nat.{ℕ, _≤_}
 use native.Mathlib.Omega.{arith}
 use Rattle.hedge.specs.Schema.{Valid}
-use Rattle.template.specs.Schemas.{schemaOf, binoidOf}
-use Rattle.template.proofs.ShapeLaws.{lawsOf}
+use Rattle.pieces.specs.Pieces.{mostTags}
+use Rattle.schema.specs.Schemas.{schemaOf, binoidOf}
+use Rattle.schema.proofs.SchemaLaws.{lawsOf}
 use Rattle.trees.proofs.VerdictLaws.{invalid-broken, mismatch-broken}
+use Rattle.worktable.specs.Packed.{mostImages}
 use Rattle.rounds.specs.Checks.{RuleOf, CheckSays}
 use Rattle.rounds.specs.Answers.{answer}
 use Rattle.rounds.specs.declared.CheckReply.{CheckReply}
@@ -42,12 +44,12 @@ module _ (f t t′ : List ℕ) (budget : ℕ) where
   mismatch-means : (r : ℕ) → CheckSays f t budget (check.Mismatch r) t′ → BrokenMeans f
   mismatch-means r ((_, sound, _, (_, _, _, event, _)), _) =
       let L = lawsOf f sound in
-      let (w, n, tree, invalid) = mismatch-broken (RuleOf f) (binoidOf f) (Valid (schemaOf f)) 16 256 L (λ w v. v .0) event in
+      let (w, n, tree, invalid) = mismatch-broken (RuleOf f) (binoidOf f) (Valid (schemaOf f)) mostTags mostImages L (λ w v. v .0) event in
       (w, (n, tree), invalid)
 
   invalid-means : (r : ℕ) → CheckSays f t budget (check.Invalid r) t′ → BrokenMeans f
   invalid-means r ((_, _, _, (_, _, _, event, _)), _) =
-      let (w, n, tree, invalid) = invalid-broken (RuleOf f) (binoidOf f) (Valid (schemaOf f)) 16 256 event in
+      let (w, n, tree, invalid) = invalid-broken (RuleOf f) (binoidOf f) (Valid (schemaOf f)) mostTags mostImages event in
       (w, (n, tree), invalid)
 
   broken-means : (r : CheckReply) → CheckSays f t budget r t′ → (1 ≤ answer r) × (answer r ≤ 2) → BrokenMeans f

@@ -8,9 +8,10 @@ use native.Mathlib.Omega.{arith}
 use lib.ListN.{length, drop, replicate, length-append, length-drop, length-replicate}
 use lib.Seq.{drop-at}
 use Rattle.trees.specs.Verdict.{passed}
-use Rattle.worktable.specs.Tables.{flat}
-use Rattle.worktable.proofs.TableLaws.{Wide, flat-length}
-use Rattle.rounds.specs.Checks.{Rows, shown, zeroed, Decided, CheckSays}
+use Rattle.rows.specs.Tables.{flat}
+use Rattle.rows.proofs.TableLaws.{Wide, flat-length}
+use Rattle.worktable.specs.Packed.{rowWidth, mostImages, tableLong}
+use Rattle.rounds.specs.Checks.{Rows, afterPass, zeroed, Decided, CheckSays}
 use Rattle.rounds.specs.Answers.{answer}
 use Rattle.rounds.specs.declared.CheckReply.{CheckReply}
 use Rattle.rounds.specs.declared.CheckReply.the-variants as check
@@ -28,9 +29,9 @@ module _ (n : ℕ) (front t : List ℕ) (long : length front ≡ n) (room : n �
   fronted-length = rw (length-append, length-drop, long) (omega (arith, room))
 
 -- the rows, then zeros up to entry n
-rows-then-zeros : (n : ℕ) (rows : List (List ℕ)) → Wide rows → length rows * 20 ≤ n
-    → length (flat rows ++ replicate (n - length rows * 20) 0) ≡ n
-rows-then-zeros n rows wide few = rw (length-append, length-replicate, flat-length rows wide) (omega (arith, few))
+rows-then-zeros : (n : ℕ) (rows : List (List ℕ)) → Wide rowWidth rows → length rows * rowWidth ≤ n
+    → length (flat rows ++ replicate (n - length rows * rowWidth) 0) ≡ n
+rows-then-zeros n rows wide few = rw (length-append, length-replicate, flat-length rowWidth rows wide) (omega (arith, few))
 
 -- ---- by the reply
 
@@ -39,32 +40,32 @@ module _ (t u : List ℕ) where
   refused-worktable r many e = record {
     refused-unchanged = λ h. e;
     ended-zero = λ h k. absurd (omega (arith, many, k));
-    rest-unchanged = ap (drop 5120) e;
+    rest-unchanged = ap (drop tableLong) e;
     same-length = ap length e;
   }
 
-  ended-worktable : (r : CheckReply) → answer r ≤ 5 → 5120 ≤ length t → u ≡ zeroed t → Worktable t r u
+  ended-worktable : (r : CheckReply) → answer r ≤ 5 → tableLong ≤ length t → u ≡ zeroed t → Worktable t r u
   ended-worktable r few room e = record {
     refused-unchanged = λ h. absurd (omega (arith, few, h));
     ended-zero = λ h k. e;
-    rest-unchanged = ap (drop 5120) e ∙ fronted-rest 5120 (replicate 5120 0) t (length-replicate {A = ℕ} 5120 0) room;
-    same-length = ap length e ∙ fronted-length 5120 (replicate 5120 0) t (length-replicate {A = ℕ} 5120 0) room;
+    rest-unchanged = ap (drop tableLong) e ∙ fronted-rest tableLong (replicate tableLong 0) t (length-replicate {A = ℕ} tableLong 0) room;
+    same-length = ap length e ∙ fronted-length tableLong (replicate tableLong 0) t (length-replicate {A = ℕ} tableLong 0) room;
   }
 
 module _ (f t u : List ℕ) (budget : ℕ) where
-  passed-worktable : (r n : ℕ) → Decided f t budget (passed r) → (rows : List (List ℕ)) → Rows f r rows → u ≡ shown rows t
+  passed-worktable : (r n : ℕ) → Decided f t budget (passed r) → (rows : List (List ℕ)) → Rows f r rows → u ≡ afterPass rows t
       → Worktable t (check.Passed r n) u
   passed-worktable r n ((room, _, _), _, _, (_, _, _, quiet, _)) rows made e =
-      let few : length rows ≤ 256 = rows-few f r rows made quiet in
-      let zeros : List ℕ = replicate (5120 - length rows * 20) 0 in
+      let few : length rows ≤ mostImages = rows-few f r rows made quiet in
+      let zeros : List ℕ = replicate (tableLong - length rows * rowWidth) 0 in
       let front = flat rows ++ zeros in
-      let long : length front ≡ 5120 = rows-then-zeros 5120 rows (rows-are-wide f r rows made) (omega (arith, few)) in
-      let is : u ≡ front ++ drop 5120 t = e ∙ sym (append-assoc (flat rows) zeros (drop 5120 t)) in
+      let long : length front ≡ tableLong = rows-then-zeros tableLong rows (rows-are-wide f r rows made) (omega (arith, few)) in
+      let is : u ≡ front ++ drop tableLong t = e ∙ sym (append-assoc (flat rows) zeros (drop tableLong t)) in
       record {
         refused-unchanged = λ h. absurd (omega (arith, h));
         ended-zero = λ h k. absurd (omega (arith, h));
-        rest-unchanged = ap (drop 5120) is ∙ fronted-rest 5120 front t long room;
-        same-length = ap length is ∙ fronted-length 5120 front t long room;
+        rest-unchanged = ap (drop tableLong) is ∙ fronted-rest tableLong front t long room;
+        same-length = ap length is ∙ fronted-length tableLong front t long room;
       }
 
   pub worktable : (r : CheckReply) → CheckSays f t budget r u → Worktable t r u

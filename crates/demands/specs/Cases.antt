@@ -4,11 +4,11 @@ use mathlib.Core.List.{List, [], _∷_, List·Memᴰ}
 use Prim.Native.Nat.{ℕ, suc}
 use lib.IntN.{ℤ, pos}
 use lib.ListN.{take}
-use Rattle.summary.specs.Packing.{count}
 use Rattle.summary.specs.Fragments.{FragmentSays}
 use Rattle.summary.specs.Joins.{JoinSays, DepthSays}
 use Rattle.summary.specs.Answers.{fragmentAnswer, joinAnswer, joinNumber, depthAnswer, netDepth}
-use Rattle.summary.specs.declared.Summary.{Summary}
+use Rattle.form.specs.Held.{tagCount}
+use Rattle.form.specs.declared.Summary.{Summary}
 use Rattle.summary.specs.declared.FragmentReply.{FragmentReply}
 use Rattle.summary.specs.declared.JoinReply.{JoinReply}
 use Rattle.summary.specs.declared.DepthReply.{DepthReply}
@@ -34,7 +34,8 @@ pub data Case : Type 0 where
 -- the numbers of ends and starts, the names of the tags, the relations
 abbrev pub Shows : Summary → ℕ → ℕ → List ℕ → List ℕ → Type 0
 Shows s ends starts names relations =
-    (s .ends ≡ ends) × (s .starts ≡ starts) × (take (count s) (s .names) ≡ names) × (take (suc (count s)) (s .relations) ≡ relations)
+    (s .counts .ends ≡ ends) × (s .counts .starts ≡ starts) × (take (tagCount (s .counts)) (s .names) ≡ names)
+    × (take (suc (tagCount (s .counts))) (s .values) ≡ relations)
 
 -- what a case says of every reply that the promises allow under K
 abbrev pub CaseHolds : Case → Type 0

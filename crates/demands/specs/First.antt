@@ -12,37 +12,38 @@ use Rattle.template.specs.Order.{IsSound}
 use Rattle.summary.specs.Fragments.{FragmentSays}
 use Rattle.summary.specs.Joins.{SummaryUnder, JoinSays, DepthSays}
 use Rattle.summary.specs.Answers.{fragmentAnswer, joinAnswer, depthAnswer}
-use Rattle.summary.specs.declared.Summary.{Summary}
+use Rattle.form.specs.declared.Summary.{Summary}
 use Rattle.summary.specs.declared.FragmentReply.{FragmentReply}
 use Rattle.summary.specs.declared.JoinReply.{JoinReply}
 use Rattle.summary.specs.declared.DepthReply.{DepthReply}
 use Rattle.page.specs.Pages.{PageSays, answer as pageAnswer}
 use Rattle.page.specs.declared.PageReply.{PageReply}
-use Rattle.rounds.specs.Checks.{HasPage, zeroed, CheckSays}
+use Rattle.worktable.specs.Packed.{rowWidth, tableLong}
+use Rattle.rounds.specs.Checks.{HasPage, mostRounds, zeroed, CheckSays}
 use Rattle.rounds.specs.Answers.{answer}
 use Rattle.rounds.specs.declared.CheckReply.{CheckReply}
-use Rattle.ujthanor.specs.Calls.{FragmentCalled, JoinCalled}
+use Rattle.ujthanor.specs.Calls.{shortRow, FragmentCalled, JoinCalled}
 
 -- "Order for a check: 9, 8, 7, 6, then rounds": each refusal is given exactly where none before it is due
 pub record CheckOrder (f t : List ℕ) (budget : ℕ) (r : CheckReply) : Type 0 where
-  pub short-first : (answer r ≡ 9) ↔ (length t < 5120)
-  pub then-budget : (answer r ≡ 8) ↔ ((5120 ≤ length t) × ((1 ≤ budget) × (budget ≤ 257) → ⊥))
-  pub then-file : (answer r ≡ 7) ↔ ((5120 ≤ length t) × (1 ≤ budget) × (budget ≤ 257) × (IsSound f → ⊥))
-  pub then-page : (answer r ≡ 6) ↔ ((5120 ≤ length t) × (1 ≤ budget) × (budget ≤ 257) × IsSound f × (HasPage f → ⊥))
+  pub short-first : (answer r ≡ 9) ↔ (length t < tableLong)
+  pub then-budget : (answer r ≡ 8) ↔ ((tableLong ≤ length t) × ((1 ≤ budget) × (budget ≤ mostRounds) → ⊥))
+  pub then-file : (answer r ≡ 7) ↔ ((tableLong ≤ length t) × (1 ≤ budget) × (budget ≤ mostRounds) × (IsSound f → ⊥))
+  pub then-page : (answer r ≡ 6) ↔ ((tableLong ≤ length t) × (1 ≤ budget) × (budget ≤ mostRounds) × IsSound f × (HasPage f → ⊥))
 
 -- what a check leaves in the worktable
 pub record Worktable (t : List ℕ) (r : CheckReply) (t′ : List ℕ) : Type 0 where
   pub refused-unchanged : 6 ≤ answer r → t′ ≡ t
   pub ended-zero : 1 ≤ answer r → answer r ≤ 5 → t′ ≡ zeroed t
-  pub rest-unchanged : drop 5120 t′ ≡ drop 5120 t
+  pub rest-unchanged : drop tableLong t′ ≡ drop tableLong t
   pub same-length : length t′ ≡ length t
 
--- what a call from C or Rust leaves in a row lent for a summary: one under 20 entries as it was; else "any refusal's summary is all zeros"
+-- what a call from C or Rust leaves in a row lent for a summary: one that is too short as it was; else "any refusal's summary is all zeros"
 pub record LentRow (row : List ℕ) (a : ℕ) (row′ : List ℕ) : Type 0 where
-  pub short-first : (a ≡ 17) ↔ (length row < 20)
-  pub short-unchanged : a ≡ 17 → row′ ≡ row
-  pub refused-zero : 1 ≤ a → a ≤ 15 → row′ ≡ replicate 20 0 ++ drop 20 row
-  pub rest-unchanged : drop 20 row′ ≡ drop 20 row
+  pub short-first : (a ≡ shortRow) ↔ (length row < rowWidth)
+  pub short-unchanged : a ≡ shortRow → row′ ≡ row
+  pub refused-zero : 1 ≤ a → a ≤ 15 → row′ ≡ replicate rowWidth 0 ++ drop rowWidth row
+  pub rest-unchanged : drop rowWidth row′ ≡ drop rowWidth row
   pub same-length : length row′ ≡ length row
 
 -- "For a page or fragment: 7, then the earliest place with 10, 11 or 12, then for a page 13, 14. For a join or net depth: 7, 15; a join

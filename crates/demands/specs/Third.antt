@@ -6,15 +6,17 @@ use Prim.Native.Nat.{ℕ, suc, _+_, _≤_, _<_}
 use lib.ListN.{length}
 use Rattle.words.specs.Tags.{Tag, start, end}
 use Rattle.hedge.specs.Schema.{Valid}
-use Rattle.template.specs.Layout.{names}
+use Rattle.pieces.specs.Pieces.{mostTags}
+use Rattle.template.specs.Layout.{nameCount}
 use Rattle.template.specs.Order.{IsSound}
 use Rattle.reader.specs.Reads.{Spelled}
-use Rattle.template.specs.Schemas.{schemaOf}
+use Rattle.schema.specs.Schemas.{schemaOf}
 use Rattle.trees.specs.Trees.{Tree}
 use Rattle.trees.specs.Verdict.{met, passed, used, Decides}
 use Rattle.page.specs.Pages.{PageSays, answer as pageAnswer}
 use Rattle.page.specs.declared.PageReply.{PageReply}
-use Rattle.rounds.specs.Checks.{RuleOf, EventOf, NewOf, HasPage, Rows, CheckSays}
+use Rattle.worktable.specs.Packed.{tableLong}
+use Rattle.rounds.specs.Checks.{RuleOf, EventOf, NewOf, HasPage, Rows, mostRounds, CheckSays}
 use Rattle.rounds.specs.Answers.{answer, number, images}
 use Rattle.rounds.specs.declared.CheckReply.{CheckReply}
 
@@ -40,13 +42,13 @@ NestsPast n w = (x y : List Tag) × (w ≡ x ++ y) × (closed x + n < opened x)
 -- "the page reader gives each one 0, or "too deep" exactly when it nests past 16, never another refusal"
 abbrev pub ReadAsValid : List ℕ → List Tag → Type 0
 ReadAsValid f w =
-    (bytes : List ℕ) → Spelled (names f) bytes w → (r : PageReply) → PageSays f bytes r
-    → ((pageAnswer r ≡ 0) ⊎ (pageAnswer r ≡ 12)) × ((pageAnswer r ≡ 12) ↔ NestsPast 16 w)
+    (bytes : List ℕ) → Spelled (nameCount f) bytes w → (r : PageReply) → PageSays f bytes r
+    → ((pageAnswer r ≡ 0) ⊎ (pageAnswer r ≡ 12)) × ((pageAnswer r ≡ 12) ↔ NestsPast mostTags w)
 
 -- "If a template set passes, every page it can produce is valid, and the page reader .."; every page is spelled by some bytes
 abbrev pub PassMeans : List ℕ → Type 0
 PassMeans f =
-    (w : List Tag) → Produces f w → Valid (schemaOf f) w × ((bytes : List ℕ) × Spelled (names f) bytes w) × ReadAsValid f w
+    (w : List Tag) → Produces f w → Valid (schemaOf f) w × ((bytes : List ℕ) × Spelled (nameCount f) bytes w) × ReadAsValid f w
 
 -- "If it is broken, it can produce an invalid page."
 abbrev pub BrokenMeans : List ℕ → Type 0
@@ -64,8 +66,8 @@ pub record ThirdDemand : Type 0 where
   pub pass-means : (f t t′ : List ℕ) (budget : ℕ) (r : CheckReply) → CheckSays f t budget r t′ → answer r ≡ 0 → PassMeans f
   pub broken-means : (f t t′ : List ℕ) (budget : ℕ) (r : CheckReply) → CheckSays f t budget r t′ → (answer r ≡ 1) ⊎ (answer r ≡ 2)
       → BrokenMeans f
-  pub exact : (f t t′ : List ℕ) (budget : ℕ) (r : CheckReply) → CheckSays f t budget r t′ → 5120 ≤ length t → 1 ≤ budget → budget ≤ 257
+  pub exact : (f t t′ : List ℕ) (budget : ℕ) (r : CheckReply) → CheckSays f t budget r t′ → tableLong ≤ length t → 1 ≤ budget → budget ≤ mostRounds
       → IsSound f → HasPage f → Exact f budget r
-  pub decided-at-257 : (f t t′ : List ℕ) (r : CheckReply) → CheckSays f t 257 r t′ → answer r ≡ 5 → ⊥
+  pub decided-at-257 : (f t t′ : List ℕ) (r : CheckReply) → CheckSays f t mostRounds r t′ → answer r ≡ 5 → ⊥
   pub larger-budget : (f t t′ u u′ : List ℕ) (budget more : ℕ) (r s : CheckReply) → CheckSays f t budget r t′ → CheckSays f u more s u′
-      → 5120 ≤ length t → 5120 ≤ length u → 1 ≤ budget → budget ≤ more → more ≤ 257 → (answer r ≡ 5 → ⊥) → r ≡ s
+      → tableLong ≤ length t → tableLong ≤ length u → 1 ≤ budget → budget ≤ more → more ≤ mostRounds → (answer r ≡ 5 → ⊥) → r ≡ s

@@ -1,7 +1,6 @@
 -- A whole form more on the arrays (specs/Steps.antt), tag by tag: `turned` is what stands after k of its tags, counted from the state
--- after its first relation. One turn of the code leads from k tags to k + 1, a refusal stays a refusal to the end, and after all tags
--- it is the join. Since the arrays hold ends before starts, the limit at each tag says the same as the limit at the end. Assumes
--- nothing.
+-- after its first piece. One turn of the code leads from k tags to k + 1, a refusal stays a refusal to the end, and after all tags it is
+-- the join. Since the arrays hold ends before starts, the limit at each tag says the same as the limit at the end. Assumes nothing.
 use mathlib.Core.Path.{_≡_, refl, sym, ap, _∙_}
 use mathlib.Core.List.{List}
 use Prim.Native.Nat.{ℕ, zero, suc, _+_, _-_, _≤_, _<_}
@@ -9,13 +8,16 @@ use native.Mathlib.Nat.{zero-add, suc-add}
 use native.Mathlib.Numerals.{add-one}
 use native.Mathlib.Omega.{arith}
 use lib.Dec.{ltb}
-use lib.ListN.{getD, set}
+use lib.ListN.{getD}
 use borrow.Author.Needs.{needs}
 use Rattle.words.specs.Reader.{reduced, Limited, limit, join, then-tag-within, then-value-within, join-within}
 use Rattle.words.proofs.LimitLaws.{join-within-limit}
-use Rattle.hedge.specs.Operations.{relations, compose}
-use Rattle.form.specs.Held.{tagOf, tagAt, stackOf, Holds}
+use Rattle.pieces.specs.declared.Piece.{Piece}
+use Rattle.pieces.specs.Pieces.{mostTags, pieceAt, putPiece, pieces}
+use Rattle.form.specs.Held.{tagOf, tagAt, stackOf, tagCount, summaryOf, formOf, lastOf, Holds}
 use Rattle.form.specs.Steps.{held, outcome, Stepped, after-tag, after-turn, after-form}
+use Rattle.form.specs.declared.Counts.{Counts}
+use Rattle.form.specs.declared.Summary.{Summary}
 use Rattle.form.specs.declared.Step.{Step}
 use Rattle.form.specs.declared.Step.the-variants.{Kept}
 use Rattle.form.proofs.HeldLaws.{tags-held, ends-first-held}
@@ -23,22 +25,22 @@ use Rattle.form.proofs.TagLaws.{stepped-held}
 use Rattle.form.proofs.TurnLaws.{IsRefused, kept-holds, kept-room, kept-fits, held-value, holds-value}
 use Rattle.form.proofs.TurnLaws.{refused-says, refused-value, refused-tag}
 
-module _ (states : ℕ) (schema endings : List ℕ) where
-  -- what stands after k tags of a form, each with the relation after it
-  unfoldable pub turned : Limited ℕ → ℕ → List ℕ → List ℕ → ℕ → Limited ℕ
+module _ (lore : List ℕ) where
+  -- what stands after k tags of a form whose first e are ends, each with the piece after it
+  unfoldable pub turned : Limited Piece → ℕ → List ℕ → List ℕ → ℕ → Limited Piece
   turned o e names values zero = o
   turned o e names values (suc k) =
-      then-value-within (relations 8 states schema endings)
-      (then-tag-within (relations 8 states schema endings) 16 (turned o e names values k) (tagAt e names k)) (getD values (suc k) 0)
+      then-value-within (pieces lore)
+      (then-tag-within (pieces lore) mostTags (turned o e names values k) (tagAt e names k)) (pieceAt values (suc k))
 
-  module _ (o : Limited ℕ) (e : ℕ) (names values : List ℕ) where
+  module _ (o : Limited Piece) (e : ℕ) (names values : List ℕ) where
     pub turned-none : o ≡ turned o e names values 0
     unfolding turned
     turned-none = refl
 
     -- after all tags it is the join
-    pub turned-join : (n : ℕ) → join-within (relations 8 states schema endings) 16 o (stackOf e names values n) (getD values n 0)
-        ≡ turned (then-value-within (relations 8 states schema endings) o (getD values 0 0)) e names values n
+    pub turned-join : (n : ℕ) → join-within (pieces lore) mostTags o (stackOf e names values n) (pieceAt values n)
+        ≡ turned (then-value-within (pieces lore) o (pieceAt values 0)) e names values n
     unfolding turned join-within stackOf
     turned-join zero = refl
     turned-join (suc n) = rw (turned-join n)
@@ -53,8 +55,8 @@ module _ (states : ℕ) (schema endings : List ℕ) where
         rw (
           suc-add,
           ← (turned-later r f names′ values′ k d p),
-          refused-tag states schema endings r f names′ values′ 16 (tagAt e names (d + k)),
-          refused-value states schema endings r f names′ values′ (getD values (suc (d + k)) 0),
+          refused-tag lore r f names′ values′ mostTags (tagAt e names (d + k)),
+          refused-value lore r f names′ values′ (pieceAt values (suc (d + k))),
         )
 
     pub turned-refused : (r : Step) → IsRefused r → (names′ values′ : List ℕ) (k n : ℕ) → k ≤ n
@@ -62,60 +64,61 @@ module _ (states : ℕ) (schema endings : List ℕ) where
     turned-refused r f names′ values′ k n l p =
         let z : n - k + k ≡ n = omega arith in rw z at (turned-later r f names′ values′ k (n - k) p)
 
-    -- one turn of the code: from e₁ ends and s₁ starts after k tags
-    module _ (e₁ s₁ k : ℕ) (names₁ values₁ : List ℕ) (r : Step) (names₂ values₂ : List ℕ)
-        (told : Stepped r names₂ values₂
-        (after-turn states schema endings e₁ s₁ names₁ values₁ (tagOf (ltb k e) (getD names k 0)) (getD values (k + 1) 0)))
-        (sofar : held e₁ s₁ names₁ values₁ ≡ turned o e names values k) where
+    -- one turn of the code, after k tags
+    module _ (c : Counts) (k : ℕ) (names₁ values₁ : List ℕ) (r : Step) (names₂ values₂ : List ℕ) (v : Piece)
+        (part : v ≡ pieceAt values (k + 1))
+        (told : Stepped r names₂ values₂ (after-turn lore (summaryOf c names₁ values₁) (tagOf (ltb k e) (getD names k 0)) v))
+        (sofar : held (summaryOf c names₁ values₁) ≡ turned o e names values k) where
       pub turned-next : outcome r names₂ values₂ ≡ turned o e names values (k + 1)
       unfolding after-turn after-tag turned then-tag-within tagAt
-      turned-next = rw (add-one k, ← sofar) (rw (add-one k) at (told .says))
+      turned-next = rw (add-one k, ← sofar) (rw (part, add-one k) at (told .says))
 
-      pub turned-kept : (e₂ s₂ : ℕ) → r ≡ Kept e₂ s₂ → held e₂ s₂ names₂ values₂ ≡ turned o e names values (k + 1)
+      pub turned-kept : (d : Counts) → r ≡ Kept d → held (summaryOf d names₂ values₂) ≡ turned o e names values (k + 1)
       unfolding outcome
-      turned-kept e₂ s₂ p = rw p at turned-next
+      turned-kept d p = rw p at turned-next
 
-  module _ (e s : ℕ) (names values : List ℕ) (e′ : ℕ) (names′ values′ : List ℕ) where
-    -- the limit at each tag is the limit at the end
-    pub form-limit : (n : ℕ) → e + s ≤ 16 → after-form states schema endings e s names values e′ names′ values′ n
-        ≡ limit (relations 8 states schema endings) 16
-        (join (relations 8 states schema endings) (reduced (stackOf e names values (e + s)) (getD values (e + s) 0))
-        (stackOf e′ names′ values′ n) (getD values′ n 0))
+  -- the limit at each tag is the limit at the end
+  pub form-limit : (s more : Summary) → tagCount (s .counts) ≤ mostTags → after-form lore s more
+      ≡ limit (pieces lore) mostTags (join (pieces lore) (reduced (formOf s) (lastOf s)) (formOf more) (lastOf more))
+  unfolding after-form
+  form-limit s more l =
+      let e = s .counts .ends in
+      let n = tagCount (s .counts) in
+      join-within-limit (pieces lore) mostTags (formOf s) (lastOf s) (ends-first-held e n (s .names) (s .values))
+      (omega (arith, tags-held e n (s .names) (s .values))) (formOf more) (lastOf more)
+      (ends-first-held (more .counts .ends) (tagCount (more .counts)) (more .names) (more .values))
+
+  -- the whole form, from the state after its first piece
+  module _ (s more : Summary) (first : List ℕ) (whole : Holds s) (v : Piece) (part : v ≡ pieceAt (more .values) 0)
+      (added : first ≡ putPiece (s .values) (tagCount (s .counts)) (pieces lore .compose (lastOf s) v)) where
+    -- after k tags of the form
+    abbrev after : ℕ → Limited Piece
+    after k = turned (held (summaryOf (s .counts) (s .names) first)) (more .counts .ends) (more .names) (more .values) k
+
+    form-turned : after-form lore s more ≡ after (tagCount (more .counts))
     unfolding after-form
-    form-limit n l =
-        join-within-limit (relations 8 states schema endings) 16 (stackOf e names values (e + s)) (getD values (e + s) 0)
-        (ends-first-held e (e + s) names values) (omega (arith, tags-held e (e + s) names values))
-        (stackOf e′ names′ values′ n) (getD values′ n 0) (ends-first-held e′ n names′ values′)
+    form-turned =
+        turned-join (held s) (more .counts .ends) (more .names) (more .values) (tagCount (more .counts))
+        ∙ ap (λ o. turned o (more .counts .ends) (more .names) (more .values) (tagCount (more .counts)))
+        (rw (← part) (sym (held-value lore (s .counts) v (s .names) (s .values) first whole added)))
 
-    -- the whole form, from the state after its first relation
-    module _ (first : List ℕ) (whole : Holds e s names values)
-        (added : first ≡ set values (e + s) (compose 8 states (getD values (e + s) 0) (getD values′ 0 0))) where
-      pub form-turned : (n : ℕ)
-          → after-form states schema endings e s names values e′ names′ values′ n ≡ turned (held e s names first) e′ names′ values′ n
-      unfolding after-form
-      form-turned n =
-          turned-join (held e s names values) e′ names′ values′ n
-          ∙ ap (λ o. turned o e′ names′ values′ n)
-          (sym (held-value states schema endings e s (getD values′ 0 0) names values first whole added))
+    pub form-end : (d : Counts) (k : ℕ) (names values : List ℕ) → held (summaryOf d names values) ≡ after k
+        → k ≤ tagCount (more .counts) → tagCount (more .counts) ≤ k → Holds (summaryOf d names values)
+        → Stepped (Kept d) names values (after-form lore s more)
+    form-end d k names values i l l′ h =
+        let z : k ≡ tagCount (more .counts) = omega arith in
+        stepped-held d names values (after-form lore s more) h (rw z at i ∙ sym form-turned)
 
-      pub form-end : (n e₁ s₁ k : ℕ) (names₁ values₁ : List ℕ)
-          → held e₁ s₁ names₁ values₁ ≡ turned (held e s names first) e′ names′ values′ k → k ≤ n → n ≤ k → Holds e₁ s₁ names₁ values₁
-          → Stepped (Kept e₁ s₁) names₁ values₁ (after-form states schema endings e s names values e′ names′ values′ n)
-      form-end n e₁ s₁ k names₁ values₁ i l l′ h =
-          let z : k ≡ n = omega arith in
-          stepped-held e₁ s₁ names₁ values₁ (after-form states schema endings e s names values e′ names′ values′ n) h
-          (rw z at i ∙ sym (form-turned n))
-
-      pub form-refused : (n e₁ s₁ k : ℕ) (names₁ values₁ : List ℕ) (r : Step) (names₂ values₂ : List ℕ)
-          → held e₁ s₁ names₁ values₁ ≡ turned (held e s names first) e′ names′ values′ k → k < n
-          → Stepped r names₂ values₂
-          (after-turn states schema endings e₁ s₁ names₁ values₁ (tagOf (ltb k e′) (getD names′ k 0)) (getD values′ (k + 1) 0))
-          → (q : Step) → r ≡ q → IsRefused q → (names₃ values₃ : List ℕ)
-          → Stepped q names₃ values₃ (after-form states schema endings e s names values e′ names′ values′ n)
-      form-refused n e₁ s₁ k names₁ values₁ r names₂ values₂ i l h q p f names₃ values₃ =
-          let o = held e s names first in
-          refused-says q f names₂ values₂ names₃ values₃ (after-form states schema endings e s names values e′ names′ values′ n)
-          (turned-refused o e′ names′ values′ q f names₂ values₂ (k + 1) n (omega arith)
-          (rw p at (turned-next o e′ names′ values′ e₁ s₁ k names₁ values₁ r names₂ values₂ h i)) ∙ sym (form-turned n))
+    pub form-refused : (d : Counts) (k : ℕ) (names values : List ℕ) (r : Step) (names′ values′ : List ℕ) (w : Piece)
+        → held (summaryOf d names values) ≡ after k → k < tagCount (more .counts) → w ≡ pieceAt (more .values) (k + 1)
+        → Stepped r names′ values′
+        (after-turn lore (summaryOf d names values) (tagOf (ltb k (more .counts .ends)) (getD (more .names) k 0)) w)
+        → IsRefused r → Stepped r names′ values′ (after-form lore s more)
+    form-refused d k names values r names′ values′ w i l q h f =
+        let o = held (summaryOf (s .counts) (s .names) first) in
+        let e = more .counts .ends in
+        refused-says r f names′ values′ names′ values′ (after-form lore s more)
+        (turned-refused o e (more .names) (more .values) r f names′ values′ (k + 1) (tagCount (more .counts)) (omega arith)
+        (turned-next o e (more .names) (more .values) d k names values r names′ values′ w q h i) ∙ sym form-turned)
 
 pub ruleset form-laws = (kept-holds, kept-room, kept-fits, holds-value, turned-none, turned-kept, form-end, form-refused, needs)

@@ -8,11 +8,14 @@ use Prim.Native.Nat.{ℕ, zero, suc, _+_, _-_, _≤_, _<_}
 use native.Mathlib.Decide.{ℕ-discrete, decLt}
 use native.Mathlib.Omega.{arith}
 use lib.IntN.{pos, _-ℤ_}
-use lib.ListN.{getD, set, length, length-set, replicate}
+use lib.ListN.{getD, set, length, replicate}
 use lib.Seq.{getD-set-same, getD-set-other}
 use borrow.Author.Tests.{lt-ltb, le-ltb}
 use Rattle.words.specs.Tags.{start, end}
 use Rattle.words.specs.Reduced.{bottom, push, OnlyEnds, EndsFirst, tags, starts, ends, net}
+use Rattle.pieces.specs.declared.Piece.{Piece}
+use Rattle.pieces.specs.Pieces.{mostTags, piecesLong, zeroPiece, pieceAt, putPiece}
+use Rattle.pieces.proofs.PieceLaws.{piece-same, piece-other, put-length, no-pieces}
 use Rattle.form.specs.Held.{tagAt, stackOf, Unused}
 
 -- a tag by its place
@@ -27,7 +30,7 @@ tag-start e names k l = rw (le-ltb k e l)
 
 -- only the places below n matter
 pub stack-same : (n e e′ : ℕ) (names names′ values values′ : List ℕ) → ((k : ℕ) → k < n → tagAt e names k ≡ tagAt e′ names′ k)
-    → ((k : ℕ) → k < n → getD values k 0 ≡ getD values′ k 0) → stackOf e names values n ≡ stackOf e′ names′ values′ n
+    → ((k : ℕ) → k < n → pieceAt values k ≡ pieceAt values′ k) → stackOf e names values n ≡ stackOf e′ names′ values′ n
 unfolding stackOf
 stack-same zero e e′ names names′ values values′ f g = refl
 stack-same (suc n) e e′ names names′ values values′ f g =
@@ -44,7 +47,7 @@ unfolding stackOf
 stack-none e names values = refl
 
 pub stack-last : (e n m : ℕ) (names values : List ℕ) → n ≡ suc m
-    → stackOf e names values n ≡ push (stackOf e names values m) (getD values m 0) (tagAt e names m)
+    → stackOf e names values n ≡ push (stackOf e names values m) (pieceAt values m) (tagAt e names m)
 unfolding stackOf
 stack-last e n m names values p = rw p
 
@@ -54,44 +57,47 @@ tag-write : (e n k a : ℕ) (names : List ℕ) → k < n → tagAt e (set names 
 unfolding tagAt
 tag-write e n k a names l = rw (getD-set-other names n k a 0 (omega arith))
 
-pub stack-value : (e n v : ℕ) (names values : List ℕ) → stackOf e names (set values n v) n ≡ stackOf e names values n
+pub stack-value : (e n : ℕ) (v : Piece) (names values : List ℕ) → stackOf e names (putPiece values n v) n ≡ stackOf e names values n
 stack-value e n v names values =
-    stack-same n e e names names (set values n v) values (λ k l. refl) (λ k l. getD-set-other values n k v 0 (omega arith))
+    stack-same n e e names names (putPiece values n v) values (λ k l. refl) (λ k l. piece-other values n k v (omega arith))
 
--- a start tag behind the n first
-pub stack-put-start : (e n m a v : ℕ) (names values : List ℕ) → m ≡ suc n → e ≤ n → n < length names
-    → stackOf e (set names n a) (set values m v) m ≡ push (stackOf e names values n) (getD values n 0) (start a)
+-- a tag behind the n first, which stay what they were
+stack-put : (e e′ n m a : ℕ) (v : Piece) (names values : List ℕ) → m ≡ suc n
+    → ((k : ℕ) → k < n → tagAt e′ (set names n a) k ≡ tagAt e names k) → stackOf e′ (set names n a) (putPiece values m v) m
+    ≡ push (stackOf e names values n) (pieceAt values n) (tagAt e′ (set names n a) n)
+stack-put e e′ n m a v names values p same =
+    rw (
+      stack-last e′ m n (set names n a) (putPiece values m v) p,
+      stack-same n e′ e (set names n a) names (putPiece values m v) values same (λ k q. piece-other values m k v (omega arith)),
+      piece-other values m n v (omega arith),
+    )
+
+pub stack-put-start : (e n m a : ℕ) (v : Piece) (names values : List ℕ) → m ≡ suc n → e ≤ n → n < length names
+    → stackOf e (set names n a) (putPiece values m v) m ≡ push (stackOf e names values n) (pieceAt values n) (start a)
 stack-put-start e n m a v names values p l h =
     rw (
-      stack-last e m n (set names n a) (set values m v) p,
-      stack-same n e e (set names n a) names (set values m v) values (λ k q. tag-write e n k a names q)
-          (λ k q. getD-set-other values m k v 0 (omega arith)),
-      getD-set-other values m n v 0 (omega arith),
+      stack-put e e n m a v names values p (λ k q. tag-write e n k a names q),
       tag-start e (set names n a) n l,
       getD-set-same names n a 0 h,
     )
 
--- an end tag behind n ends
-pub stack-put-end : (e n m a v : ℕ) (names values : List ℕ) → m ≡ suc n → n ≤ e → n < length names
-    → stackOf m (set names n a) (set values m v) m ≡ push (stackOf e names values n) (getD values n 0) (end a)
+-- an end tag goes behind n ends
+pub stack-put-end : (e n m a : ℕ) (v : Piece) (names values : List ℕ) → m ≡ suc n → n ≤ e → n < length names
+    → stackOf m (set names n a) (putPiece values m v) m ≡ push (stackOf e names values n) (pieceAt values n) (end a)
 stack-put-end e n m a v names values p l h =
     rw (
-      stack-last m m n (set names n a) (set values m v) p,
-      stack-same n m e (set names n a) names (set values m v) values
-          (λ k q. tag-end m (set names n a) k (omega arith) ∙ ap end (getD-set-other names n k a 0 (omega arith))
-          ∙ sym (tag-end e names k (omega arith)))
-          (λ k q. getD-set-other values m k v 0 (omega arith)),
-      getD-set-other values m n v 0 (omega arith),
+      stack-put e m n m a v names values p
+          (λ k q. tag-write m n k a names q ∙ tag-end m names k (omega arith) ∙ sym (tag-end e names k (omega arith))),
       tag-end m (set names n a) n (omega arith),
       getD-set-same names n a 0 h,
     )
 
--- the last of n tags goes, and a value takes the place of two
-pub stack-take : (e n m a v w : ℕ) (names values : List ℕ) → n ≡ suc m
-    → stackOf e (set names m a) (set (set values n w) m v) m ≡ stackOf e names values m
+-- the last of n tags goes, and a piece takes the place of two
+pub stack-take : (e n m a : ℕ) (v w : Piece) (names values : List ℕ) → n ≡ suc m
+    → stackOf e (set names m a) (putPiece (putPiece values n w) m v) m ≡ stackOf e names values m
 stack-take e n m a v w names values p =
-    stack-same m e e (set names m a) names (set (set values n w) m v) values (λ k l. tag-write e m k a names l)
-    (λ k l. getD-set-other (set values n w) m k v 0 (omega arith) ∙ getD-set-other values n k w 0 (omega arith))
+    stack-same m e e (set names m a) names (putPiece (putPiece values n w) m v) values (λ k l. tag-write e m k a names l)
+    (λ k l. piece-other (putPiece values n w) m k v (omega arith) ∙ piece-other values n k w (omega arith))
 
 -- unused places
 
@@ -100,47 +106,48 @@ empty-place zero k = refl
 empty-place (suc n) zero = refl
 empty-place (suc n) (suc k) = empty-place n k
 
-pub unused-none : (n m v : ℕ) → Unused 0 (replicate n 0) (set (replicate m 0) 0 v)
+pub unused-none : (n m : ℕ) (v : Piece) → Unused 0 (replicate n 0) (putPiece (replicate m 0) 0 v)
 unused-none n m v =
     record {
       names-zero = λ k l. empty-place n k;
-      relations-zero = λ k l. getD-set-other (replicate m 0) 0 k v 0 (omega arith) ∙ empty-place m k;
+      values-zero = λ k l. piece-other (replicate m 0) 0 k v (omega arith) ∙ no-pieces m k;
     }
 
-pub unused-put : (n m a v : ℕ) (names values : List ℕ) → m ≡ suc n → Unused n names values
-    → Unused m (set names n a) (set values m v)
+pub unused-put : (n m a : ℕ) (v : Piece) (names values : List ℕ) → m ≡ suc n → Unused n names values
+    → Unused m (set names n a) (putPiece values m v)
 unused-put n m a v names values p u =
     record {
       names-zero = λ k l. getD-set-other names n k a 0 (omega arith) ∙ u .names-zero k (omega arith);
-      relations-zero = λ k l. getD-set-other values m k v 0 (omega arith) ∙ u .relations-zero k (omega arith);
+      values-zero = λ k l. piece-other values m k v (omega arith) ∙ u .values-zero k (omega arith);
     }
 
-pub unused-value : (n v : ℕ) (names values : List ℕ) → Unused n names values → Unused n names (set values n v)
+pub unused-value : (n : ℕ) (v : Piece) (names values : List ℕ) → Unused n names values → Unused n names (putPiece values n v)
 unused-value n v names values u =
     record {
       names-zero = u .names-zero;
-      relations-zero = λ k l. getD-set-other values n k v 0 (omega arith) ∙ u .relations-zero k l;
+      values-zero = λ k l. piece-other values n k v (omega arith) ∙ u .values-zero k l;
     }
 
-pub unused-take : (n m v : ℕ) (names values : List ℕ) → n ≡ suc m → m < length names → n < length values → Unused n names values
-    → Unused m (set names m 0) (set (set values n 0) m v)
-unused-take n m v names values p h g u =
+pub unused-take : (n m : ℕ) (v : Piece) (names values : List ℕ) → n ≡ suc m → m < length names → length values ≡ piecesLong
+    → n ≤ mostTags → Unused n names values → Unused m (set names m 0) (putPiece (putPiece values n zeroPiece) m v)
+unused-take n m v names values p h g l u =
     record {
       names-zero = λ k l. name k l (ℕ-discrete k m);
-      relations-zero = λ k l. getD-set-other (set values n 0) m k v 0 (omega arith) ∙ value k l (ℕ-discrete k n);
+      values-zero = λ k l. piece-other (putPiece values n zeroPiece) m k v (omega arith) ∙ value k l (ℕ-discrete k n);
     }
   where
     name : (k : ℕ) → m ≤ k → Dec (k ≡ m) → getD (set names m 0) k 0 ≡ 0
     name k l (yes e) = rw e (getD-set-same names m 0 0 h)
     name k l (no e) = getD-set-other names m k 0 0 e ∙ u .names-zero k (omega arith)
 
-    value : (k : ℕ) → m < k → Dec (k ≡ n) → getD (set values n 0) k 0 ≡ 0
-    value k l (yes e) = rw e (getD-set-same values n 0 0 g)
-    value k l (no e) = getD-set-other values n k 0 0 e ∙ u .relations-zero k (omega arith)
+    value : (k : ℕ) → m < k → Dec (k ≡ n) → pieceAt (putPiece values n zeroPiece) k ≡ zeroPiece
+    value k b (yes e) = rw e (piece-same values n zeroPiece g l)
+    value k b (no e) = piece-other values n k zeroPiece e ∙ u .values-zero k (omega arith)
 
--- the value after m tags, once it is written
-pub value-taken : (n m v w : ℕ) (values : List ℕ) → m < length values → getD (set (set values n w) m v) m 0 ≡ v
-value-taken n m v w values h = getD-set-same (set values n w) m v 0 (omega (arith, length-set values n w))
+-- the piece after m tags, once it is written
+pub value-taken : (n m : ℕ) (v w : Piece) (values : List ℕ) → length values ≡ piecesLong → m ≤ mostTags
+    → pieceAt (putPiece (putPiece values n w) m v) m ≡ v
+value-taken n m v w values h l = piece-same (putPiece values n w) m v (put-length values n w ∙ h) l
 
 -- counts
 

@@ -3,3 +3,4 @@ pub mod TagLaws
 pub mod TurnLaws
 pub mod FormLaws
 pub mod PackLaws
+pub mod EndingLaws

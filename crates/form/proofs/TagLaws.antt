@@ -1,22 +1,26 @@
 -- One tag more on the arrays (specs/Steps.antt), case by case as the code meets them: a start or an end kept, or one too many; an end
 -- that meets a start of its own name, or of another. What the arrays hold follows from HeldLaws, what the tag makes of it from the
--- equations of a step and of the limit in words. Assumes nothing.
-use mathlib.Core.Path.{_≡_, refl, sym, ap₂, _∙_}
+-- equations of a step and of the limit in words. The counts and the pieces that a function is told are variables, with equations. Assumes
+-- nothing.
+use mathlib.Core.Path.{_≡_, sym, ap₂, _∙_}
 use mathlib.Core.Bool.{Bool, true, false}
 use mathlib.Core.List.{List}
 use Prim.Native.Nat.{ℕ, suc, _+_, _-_, _≤_, _<_}
 use native.Mathlib.Omega.{arith}
 use lib.ListN.{getD, set, length-set, replicate, length-replicate}
-use lib.Seq.{getD-set-same}
 use borrow.Author.Needs.{needs}
 use Rattle.words.specs.Tags.{Tag, start, end}
 use Rattle.words.specs.Reduced.{push, EndsFirst, tags}
-use Rattle.words.specs.Reader.{Limited, fits, differs, too-deep}
+use Rattle.words.specs.Reader.{reduced, Limited, fits, differs, too-deep, limit}
 use Rattle.words.proofs.StepLaws.{step-push, step-same, step-other}
 use Rattle.words.proofs.LimitLaws.{limit-in, limit-out, limit-differ}
-use Rattle.hedge.specs.Operations.{relations, unit, compose, wrap}
-use Rattle.form.specs.Held.{tagOf, stackOf, Holds}
-use Rattle.form.specs.Steps.{Schooled, held, outcome, Stepped, after-tag}
+use Rattle.pieces.specs.declared.Piece.{Piece}
+use Rattle.pieces.specs.Pieces.{mostTags, piecesLong, zeroPiece, pieceAt, putPiece, pieces}
+use Rattle.pieces.proofs.PieceLaws.{piece-same, put-length}
+use Rattle.form.specs.Held.{tagOf, stackOf, tagCount, summaryOf, formOf, lastOf, Holds}
+use Rattle.form.specs.Steps.{held, outcome, Stepped, after-tag}
+use Rattle.form.specs.declared.Counts.{Counts}
+use Rattle.form.specs.declared.Summary.{Summary}
 use Rattle.form.specs.declared.Step.{Step}
 use Rattle.form.specs.declared.Step.the-variants.{Kept, Mismatch, TooDeep}
 use Rattle.form.proofs.HeldLaws.{tag-start, stack-last, stack-put-start, stack-put-end, stack-take}
@@ -24,174 +28,186 @@ use Rattle.form.proofs.HeldLaws.{unused-none, unused-put, unused-take, 
 
 -- what a step says
 
-pub stepped-held : (e s : ℕ) (names values : List ℕ) (o : Limited ℕ) → Holds e s names values → held e s names values ≡ o
-    → Stepped (Kept e s) names values o
+pub stepped-held : (c : Counts) (names values : List ℕ) (o : Limited Piece) → Holds (summaryOf c names values)
+    → held (summaryOf c names values) ≡ o → Stepped (Kept c) names values o
 unfolding outcome
-stepped-held e s names values o h p = record { says = p; tidy = h }
+stepped-held c names values o h p = record { says = p; holds = h }
 
-pub stepped-differs : (a b : ℕ) (names values : List ℕ) (o : Limited ℕ) → o ≡ differs a b → Stepped (Mismatch a b) names values o
+pub stepped-differs : (a b : ℕ) (names values : List ℕ) (o : Limited Piece) → o ≡ differs a b → Stepped (Mismatch a b) names values o
 unfolding outcome
-stepped-differs a b names values o p = record { says = sym p; tidy = tt }
+stepped-differs a b names values o p = record { says = sym p; holds = tt }
 
-pub stepped-deep : (names values : List ℕ) (o : Limited ℕ) → o ≡ too-deep → Stepped TooDeep names values o
+pub stepped-deep : (names values : List ℕ) (o : Limited Piece) → o ≡ too-deep → Stepped TooDeep names values o
 unfolding outcome
-stepped-deep names values o p = record { says = sym p; tidy = tt }
+stepped-deep names values o p = record { says = sym p; holds = tt }
 
 -- the arrays before any tag, and after a tag more or less
 
-pub holds-none : (v : ℕ) → Holds 0 0 (replicate 16 0) (set (replicate 17 0) 0 v)
-holds-none v =
+pub holds-none : (p : Piece)
+    → Holds (summaryOf (record { ends = 0; starts = 0 }) (replicate mostTags 0) (putPiece (replicate piecesLong 0) 0 p))
+holds-none p =
     record {
-      names-long = length-replicate {A = ℕ} 16 0;
-      values-long = length-set (replicate 17 0) 0 v ∙ length-replicate {A = ℕ} 17 0;
+      names-long = length-replicate {A = ℕ} mostTags 0;
+      values-long = put-length (replicate piecesLong 0) 0 p ∙ length-replicate {A = ℕ} piecesLong 0;
       room = omega arith;
-      unused = unused-none 16 17 v;
+      unused = unused-none mostTags piecesLong p;
     }
 
-holds-put : (e s e′ s′ m a v : ℕ) (names values : List ℕ) → m ≡ e′ + s′ → m ≡ suc (e + s) → e + s < 16 → Holds e s names values
-    → Holds e′ s′ (set names (e + s) a) (set values m v)
-holds-put e s e′ s′ m a v names values p q l h =
+pub holds-put : (s : Summary) (d : Counts) (m a : ℕ) (v : Piece) → m ≡ tagCount d → m ≡ suc (tagCount (s .counts))
+    → tagCount (s .counts) < mostTags → Holds s
+    → Holds (summaryOf d (set (s .names) (tagCount (s .counts)) a) (putPiece (s .values) m v))
+holds-put s d m a v p q l h =
+    let n = tagCount (s .counts) in
     record {
-      names-long = length-set names (e + s) a ∙ h .names-long;
-      values-long = length-set values m v ∙ h .values-long;
+      names-long = length-set (s .names) n a ∙ h .names-long;
+      values-long = put-length (s .values) m v ∙ h .values-long;
       room = omega arith;
-      unused = rw (← p) (unused-put (e + s) m a v names values q (h .unused));
+      unused = rw (← p) (unused-put n m a v (s .names) (s .values) q (h .unused));
     }
 
-holds-take : (e s s′ n m v : ℕ) (names values : List ℕ) → n ≡ e + s → m ≡ e + s′ → n ≡ suc m → Holds e s names values
-    → Holds e s′ (set names m 0) (set (set values n 0) m v)
-holds-take e s s′ n m v names values p q r h =
+holds-take : (s : Summary) (d : Counts) (m : ℕ) (v : Piece) → m ≡ tagCount d → tagCount (s .counts) ≡ suc m → Holds s
+    → Holds (summaryOf d (set (s .names) m 0) (putPiece (putPiece (s .values) (tagCount (s .counts)) zeroPiece) m v))
+holds-take s d m v p q h =
+    let n = tagCount (s .counts) in
     let i = h .names-long in
-    let j = h .values-long in
     let l = h .room in
     record {
-      names-long = length-set names m 0 ∙ i;
-      values-long = length-set (set values n 0) m v ∙ length-set values n 0 ∙ j;
+      names-long = length-set (s .names) m 0 ∙ i;
+      values-long = put-length (putPiece (s .values) n zeroPiece) m v ∙ put-length (s .values) n zeroPiece ∙ h .values-long;
       room = omega arith;
-      unused = rw (← q) (unused-take n m v names values r (omega arith) (omega arith) (rw p (h .unused)));
+      unused = rw (← p) (unused-take n m v (s .names) (s .values) q (omega arith) (h .values-long) l (h .unused));
     }
 
-module _ (states : ℕ) (schema endings : List ℕ) (e s : ℕ) (names values : List ℕ) where
+module _ (lore : List ℕ) (s : Summary) where
   -- a tag that is left unmatched
+  tag-put : (t : Tag) → EndsFirst (push (formOf s) (lastOf s) t)
+      → after-tag lore s t ≡ limit (pieces lore) mostTags (reduced (push (formOf s) (lastOf s) t) (pieces lore .unit))
+  unfolding after-tag
+  tag-put t f = rw (step-push (pieces lore) (formOf s) (lastOf s) t f)
 
-  tag-pushed : (t : Tag) → EndsFirst (push (stackOf e names values (e + s)) (getD values (e + s) 0) t) → e + s < 16
-      → after-tag states schema endings e s names values t
-      ≡ fits (push (stackOf e names values (e + s)) (getD values (e + s) 0) t) (unit 8 states)
-  unfolding after-tag tags
-  tag-pushed t f l =
-      let B = relations 8 states schema endings in
-      let z = tags-held e (e + s) names values in
-      rw (step-push B (stackOf e names values (e + s)) (getD values (e + s) 0) t f)
-      (limit-in B 16 (push (stackOf e names values (e + s)) (getD values (e + s) 0) t) (unit 8 states) (omega arith))
-
-  tag-over : (t : Tag) → EndsFirst (push (stackOf e names values (e + s)) (getD values (e + s) 0) t) → 16 ≤ e + s
-      → after-tag states schema endings e s names values t ≡ too-deep
-  unfolding after-tag tags
-  tag-over t f l =
-      let B = relations 8 states schema endings in
-      let z = tags-held e (e + s) names values in
-      rw (step-push B (stackOf e names values (e + s)) (getD values (e + s) 0) t f)
-      (limit-out B 16 (push (stackOf e names values (e + s)) (getD values (e + s) 0) t) (unit 8 states) (omega arith))
+  form-tags : tags (formOf s) ≡ tagCount (s .counts)
+  form-tags = tags-held (s .counts .ends) (tagCount (s .counts)) (s .names) (s .values)
 
   -- the innermost start
-  top-start : 0 < s → stackOf e names values (e + s)
-      ≡ push (stackOf e names values (e + s - 1)) (getD values (e + s - 1) 0) (start (getD names (e + s - 1) 0))
-  top-start l = rw (stack-last e (e + s) (e + s - 1) names values (omega arith), tag-start e names (e + s - 1) (omega arith))
+  top-start : 0 < s .counts .starts → formOf s
+      ≡ push (stackOf (s .counts .ends) (s .names) (s .values) (tagCount (s .counts) - 1)) (pieceAt (s .values) (tagCount (s .counts) - 1))
+      (start (getD (s .names) (tagCount (s .counts) - 1) 0))
+  top-start l =
+      let n = tagCount (s .counts) in
+      rw (
+        stack-last (s .counts .ends) n (n - 1) (s .names) (s .values) (omega arith),
+        tag-start (s .counts .ends) (s .names) (n - 1) (omega arith),
+      )
 
-  module _ (names′ values′ : List ℕ) (name : ℕ) where
-    -- a start tag
+  -- a start may stand behind all tags, an end behind ends
 
-    pub start-deep : (closes : Bool) → closes ≡ false → 16 ≤ e + s
-        → Stepped TooDeep names′ values′ (after-tag states schema endings e s names values (tagOf closes name))
-    start-deep closes f l =
-        rw f
-        (stepped-deep names′ values′ (after-tag states schema endings e s names values (start name))
-        (tag-over (start name) (ends-first-held e (e + s) names values) l))
+  behind-all : (a : ℕ) → EndsFirst (push (formOf s) (lastOf s) (start a))
+  behind-all a = ends-first-held (s .counts .ends) (tagCount (s .counts)) (s .names) (s .values)
 
-    pub start-kept : (empty : ℕ) (closes : Bool) → closes ≡ false → Schooled states schema endings empty → Holds e s names values
-        → e + s < 16 → names′ ≡ set names (e + s) name → values′ ≡ set values (e + s + 1) empty
-        → Stepped (Kept e (s + 1)) names′ values′ (after-tag states schema endings e s names values (tagOf closes name))
-    start-kept empty closes f w h l p q =
-        let i = h .names-long in
-        let j = h .values-long in
-        let z : e + s + 1 ≡ e + (s + 1) = omega arith in
-        rw (f, p, q, z)
-        (stepped-held e (s + 1) (set names (e + s) name) (set values (e + (s + 1)) empty)
-        (after-tag states schema endings e s names values (start name))
-        (holds-put e s e (s + 1) (e + (s + 1)) name empty names values refl (omega arith) l h)
-        (rw (tag-pushed (start name) (ends-first-held e (e + s) names values) l)
-        (ap₂ fits (stack-put-start e (e + s) (e + (s + 1)) name empty names values (omega arith) (omega arith) (omega arith))
-        (getD-set-same values (e + (s + 1)) empty 0 (omega arith) ∙ w .empty-word))))
+  behind-ends : (a : ℕ) → s .counts .starts ≤ 0 → EndsFirst (push (formOf s) (lastOf s) (end a))
+  behind-ends a z = only-ends-held (s .counts .ends) (tagCount (s .counts)) (s .names) (s .values) (omega arith)
 
-    -- an end tag where no start stands
+  module _ (names values : List ℕ) (name : ℕ) where
+    -- one tag too many
 
-    pub end-deep : (closes : Bool) → closes ≡ true → s ≤ 0 → 16 ≤ e + s
-        → Stepped TooDeep names′ values′ (after-tag states schema endings e s names values (tagOf closes name))
-    end-deep closes f z l =
-        rw f
-        (stepped-deep names′ values′ (after-tag states schema endings e s names values (end name))
-        (tag-over (end name) (only-ends-held e (e + s) names values (omega arith)) l))
+    tag-deep : (t : Tag) → EndsFirst (push (formOf s) (lastOf s) t) → mostTags ≤ tagCount (s .counts)
+        → Stepped TooDeep names values (after-tag lore s t)
+    unfolding tags
+    tag-deep t f l =
+        let form = push (formOf s) (lastOf s) t in
+        stepped-deep names values (after-tag lore s t)
+        (tag-put t f ∙ limit-out (pieces lore) mostTags form (pieces lore .unit) (omega (arith, form-tags)))
 
-    pub end-kept : (empty : ℕ) (closes : Bool) → closes ≡ true → Schooled states schema endings empty → Holds e s names values
-        → s ≤ 0 → e + s < 16 → names′ ≡ set names (e + s) name → values′ ≡ set values (e + s + 1) empty
-        → Stepped (Kept (e + 1) 0) names′ values′ (after-tag states schema endings e s names values (tagOf closes name))
-    end-kept empty closes f w h y l p q =
-        let i = h .names-long in
-        let j = h .values-long in
-        let z : e + s + 1 ≡ e + 1 = omega arith in
-        let none : e + 1 + 0 ≡ e + 1 = omega arith in
-        rw (f, p, q, z)
-        (stepped-held (e + 1) 0 (set names (e + s) name) (set values (e + 1) empty)
-        (after-tag states schema endings e s names values (end name))
-        (holds-put e s (e + 1) 0 (e + 1) name empty names values (omega arith) (omega arith) l h)
-        (rw (none, tag-pushed (end name) (only-ends-held e (e + s) names values (omega arith)) l)
-        (ap₂ fits (stack-put-end e (e + s) (e + 1) name empty names values (omega arith) (omega arith) (omega arith))
-        (getD-set-same values (e + 1) empty 0 (omega arith) ∙ w .empty-word))))
+    pub start-deep : (closes : Bool) → closes ≡ false → mostTags ≤ tagCount (s .counts)
+        → Stepped TooDeep names values (after-tag lore s (tagOf closes name))
+    start-deep closes f l = rw f (tag-deep (start name) (behind-all name) l)
+
+    pub end-deep : (closes : Bool) → closes ≡ true → s .counts .starts ≤ 0 → mostTags ≤ tagCount (s .counts)
+        → Stepped TooDeep names values (after-tag lore s (tagOf closes name))
+    end-deep closes f z l = rw f (tag-deep (end name) (behind-ends name z) l)
+
+    -- a tag kept behind the others; v is the empty word's piece
+    module _ (d : Counts) (v : Piece) (closes : Bool) (unit : v ≡ pieces lore .unit) (h : Holds s) (l : tagCount (s .counts) < mostTags)
+        (p : names ≡ set (s .names) (tagCount (s .counts)) name) (q : values ≡ putPiece (s .values) (tagCount (s .counts) + 1) v) where
+      tag-kept : (t : Tag) → tagCount d ≡ tagCount (s .counts) + 1 → EndsFirst (push (formOf s) (lastOf s) t)
+          → stackOf (d .ends) (set (s .names) (tagCount (s .counts)) name) (putPiece (s .values) (tagCount (s .counts) + 1) v)
+          (tagCount (s .counts) + 1) ≡ push (formOf s) (lastOf s) t → Stepped (Kept d) names values (after-tag lore s t)
+      unfolding tags
+      tag-kept t more f is =
+          let n = tagCount (s .counts) in
+          let form = push (formOf s) (lastOf s) t in
+          rw (p, q)
+          (stepped-held d (set (s .names) n name) (putPiece (s .values) (n + 1) v) (after-tag lore s t)
+          (holds-put s d (n + 1) name v (sym more) (omega arith) l h)
+          (rw (more, tag-put t f, limit-in (pieces lore) mostTags form (pieces lore .unit) (omega (arith, form-tags)))
+          (ap₂ fits is (piece-same (s .values) (n + 1) v (h .values-long) (omega arith) ∙ unit))))
+
+      pub start-kept : closes ≡ false → d ≡ record { ends = s .counts .ends; starts = s .counts .starts + 1 }
+          → Stepped (Kept d) names values (after-tag lore s (tagOf closes name))
+      start-kept f e =
+          let n = tagCount (s .counts) in
+          rw f
+          (tag-kept (start name) (rw e (omega arith)) (behind-all name)
+          (rw e
+          (stack-put-start (s .counts .ends) n (n + 1) name v (s .names) (s .values) (omega arith) (omega arith)
+          (omega (arith, h .names-long)))))
+
+      -- where no start stands
+      pub end-kept : closes ≡ true → s .counts .starts ≤ 0 → d ≡ record { ends = s .counts .ends + 1; starts = 0 }
+          → Stepped (Kept d) names values (after-tag lore s (tagOf closes name))
+      end-kept f z e =
+          let n = tagCount (s .counts) in
+          let one : s .counts .ends + 1 ≡ n + 1 = omega arith in
+          rw f
+          (tag-kept (end name) (rw e (omega arith)) (behind-ends name z)
+          (rw (e, one)
+          (stack-put-end (s .counts .ends) n (n + 1) name v (s .names) (s .values) (omega arith) (omega arith)
+          (omega (arith, h .names-long)))))
 
     -- an end tag where starts stand: it meets the innermost
 
-    pub end-differs : 0 < s → (getD names (e + s - 1) 0 ≡ name → ⊥)
-        → Stepped (Mismatch (getD names (e + s - 1) 0) name) names′ values′
-        (after-tag states schema endings e s names values (end name))
+    pub end-differs : (a : ℕ) → a ≡ getD (s .names) (tagCount (s .counts) - 1) 0 → 0 < s .counts .starts → (a ≡ name → ⊥)
+        → Stepped (Mismatch a name) names values (after-tag lore s (end name))
     unfolding after-tag
-    end-differs l n =
-        let B = relations 8 states schema endings in
-        let a = getD names (e + s - 1) 0 in
-        stepped-differs a name names′ values′ (after-tag states schema endings e s names values (end name))
-        (rw (
-          top-start l,
-          step-other B (stackOf e names values (e + s - 1)) (getD values (e + s - 1) 0) (getD values (e + s) 0) a name n,
-        ) (limit-differ B 16 a name))
+    end-differs a top l other =
+        let n = tagCount (s .counts) in
+        let S = stackOf (s .counts .ends) (s .names) (s .values) (n - 1) in
+        stepped-differs a name names values (after-tag lore s (end name))
+        (rw (top-start l, ← top, step-other (pieces lore) S (pieceAt (s .values) (n - 1)) (lastOf s) a name other)
+        (limit-differ (pieces lore) mostTags a name))
 
-    pub end-meets : (v : ℕ) → Holds e s names values → 0 < s → getD names (e + s - 1) 0 ≡ name
-        → v ≡ compose 8 states (getD values (e + s - 1) 0) (wrap 8 schema endings name (getD values (e + s) 0))
-        → names′ ≡ set names (e + s - 1) 0 → values′ ≡ set (set values (e + s) 0) (e + s - 1) v
-        → Stepped (Kept e (s - 1)) names′ values′ (after-tag states schema endings e s names values (end name))
+    pub end-meets : (d : Counts) (before inner v : Piece) → Holds s → 0 < s .counts .starts
+        → getD (s .names) (tagCount (s .counts) - 1) 0 ≡ name → before ≡ pieceAt (s .values) (tagCount (s .counts) - 1)
+        → inner ≡ pieceAt (s .values) (tagCount (s .counts)) → v ≡ pieces lore .compose before (pieces lore .wrap name inner)
+        → names ≡ set (s .names) (tagCount (s .counts) - 1) 0
+        → values ≡ putPiece (putPiece (s .values) (tagCount (s .counts)) zeroPiece) (tagCount (s .counts) - 1) v
+        → d ≡ record { ends = s .counts .ends; starts = s .counts .starts - 1 }
+        → Stepped (Kept d) names values (after-tag lore s (end name))
     unfolding after-tag
-    end-meets v h l m r p q =
-        let B = relations 8 states schema endings in
-        let S = stackOf e names values (e + s - 1) in
+    end-meets d before inner v h l m b w r p q e =
+        let n = tagCount (s .counts) in
+        let S = stackOf (s .counts .ends) (s .names) (s .values) (n - 1) in
         let i = h .room in
-        let j = h .values-long in
-        let z : e + (s - 1) ≡ e + s - 1 = omega arith in
+        let z : s .counts .ends + (s .counts .starts - 1) ≡ n - 1 = omega arith in
         rw (p, q)
-        (stepped-held e (s - 1) (set names (e + s - 1) 0) (set (set values (e + s) 0) (e + s - 1) v)
-        (after-tag states schema endings e s names values (end name))
-        (holds-take e s (s - 1) (e + s) (e + s - 1) v names values refl (omega arith) (omega arith) h)
+        (stepped-held d (set (s .names) (n - 1) 0) (putPiece (putPiece (s .values) n zeroPiece) (n - 1) v) (after-tag lore s (end name))
+        (holds-take s d (n - 1) v (rw (e, z)) (omega arith) h)
         (rw (
+          e,
           z,
           top-start l,
           m,
-          step-same B S (getD values (e + s - 1) 0) (getD values (e + s) 0) name,
+          step-same (pieces lore) S (pieceAt (s .values) (n - 1)) (lastOf s) name,
+          ← b,
+          ← w,
           ← r,
-          limit-in B 16 S v (omega (arith, tags-held e (e + s - 1) names values)),
+          limit-in (pieces lore) mostTags S v (omega (arith, tags-held (s .counts .ends) (n - 1) (s .names) (s .values))),
         )
-        (ap₂ fits (stack-take e (e + s) (e + s - 1) 0 v 0 names values (omega arith))
-        (value-taken (e + s) (e + s - 1) v 0 values (omega arith)))))
+        (ap₂ fits (stack-take (s .counts .ends) n (n - 1) 0 v zeroPiece (s .names) (s .values) (omega arith))
+        (value-taken n (n - 1) v zeroPiece (s .values) (h .values-long) (omega arith)))))
 
-    pub end-met : (closes : Bool) (r : Step) → closes ≡ true
-        → Stepped r names′ values′ (after-tag states schema endings e s names values (end name))
-        → Stepped r names′ values′ (after-tag states schema endings e s names values (tagOf closes name))
+    pub end-met : (closes : Bool) (r : Step) → closes ≡ true → Stepped r names values (after-tag lore s (end name))
+        → Stepped r names values (after-tag lore s (tagOf closes name))
     end-met closes r f h = rw f h
 
 pub ruleset tag-laws = (start-deep, start-kept, end-deep, end-kept, end-differs, end-meets, end-met, needs)

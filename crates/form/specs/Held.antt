@@ -1,5 +1,5 @@
--- A reduced form held in two arrays. Document 01, "Reduced forms": a summary is "at most 16 tags and one relation more than tags"; the
--- tags stand in the string's order, ends and then starts, and relation k stands before tag k.
+-- A reduced form held in two arrays. Document 01, "Reduced forms": a summary is at most 16 tags and one relation more than tags; the tags
+-- stand in the string's order, ends and then starts, and piece k stands before tag k.
 use mathlib.Core.Path.{_≡_}
 use mathlib.Core.Bool.{Bool, true, false}
 use mathlib.Core.List.{List}
@@ -8,6 +8,10 @@ use lib.Dec.{ltb}
 use lib.ListN.{length, getD}
 use Rattle.words.specs.Tags.{Tag, start, end}
 use Rattle.words.specs.Reduced.{Stack, bottom, push}
+use Rattle.pieces.specs.declared.Piece.{Piece}
+use Rattle.pieces.specs.Pieces.{mostTags, piecesLong, zeroPiece, pieceAt}
+use Rattle.form.specs.declared.Counts.{Counts}
+use Rattle.form.specs.declared.Summary.{Summary}
 
 -- the tag of a name
 abbrev pub tagOf : Bool → ℕ → Tag
@@ -18,20 +22,35 @@ tagOf false a = start a
 unfoldable pub tagAt : ℕ → List ℕ → ℕ → Tag
 tagAt e names k = tagOf (ltb k e) (getD names k 0)
 
--- the n first tags, each with the relation before it
-unfoldable pub stackOf : ℕ → List ℕ → List ℕ → ℕ → Stack ℕ
-stackOf e names relations zero = bottom
-stackOf e names relations (suc k) = push (stackOf e names relations k) (getD relations k 0) (tagAt e names k)
+-- the n first tags, each with the piece before it
+unfoldable pub stackOf : ℕ → List ℕ → List ℕ → ℕ → Stack Piece
+stackOf e names values zero = bottom
+stackOf e names values (suc k) = push (stackOf e names values k) (pieceAt values k) (tagAt e names k)
 
--- "an unused place" is 0: behind n tags and n + 1 relations
-pub record Unused (n : ℕ) (names relations : List ℕ) : Type 0 where
+-- how many tags
+abbrev pub tagCount : Counts → ℕ
+tagCount c = c .ends + c .starts
+
+-- counts and two arrays as one summary
+abbrev pub summaryOf : Counts → List ℕ → List ℕ → Summary
+summaryOf c names values = record { counts = c; names = names; values = values }
+
+-- a summary's tags, each with the piece before it, and the piece after them
+abbrev pub formOf : Summary → Stack Piece
+formOf s = stackOf (s .counts .ends) (s .names) (s .values) (tagCount (s .counts))
+
+abbrev pub lastOf : Summary → Piece
+lastOf s = pieceAt (s .values) (tagCount (s .counts))
+
+-- "an unused place" is 0: behind n tags and n + 1 pieces
+pub record Unused (n : ℕ) (names values : List ℕ) : Type 0 where
   pub names-zero : (k : ℕ) → n ≤ k → getD names k 0 ≡ 0
-  pub relations-zero : (k : ℕ) → n < k → getD relations k 0 ≡ 0
+  pub values-zero : (k : ℕ) → n < k → pieceAt values k ≡ zeroPiece
 
--- e ends and s starts stand in the arrays, and nothing behind them. That the arrays are of 16 and 17 is said too: a function does not
--- know it of an array that it was lent
-pub record Holds (e s : ℕ) (names values : List ℕ) : Type 0 where
-  pub names-long : length names ≡ 16
-  pub values-long : length values ≡ 17
-  pub room : e + s ≤ 16
-  pub unused : Unused (e + s) names values
+-- the summary has room for its tags, and nothing stands behind them. How long the arrays are is said too: a function does not know it of
+-- an array that it was lent
+pub record Holds (s : Summary) : Type 0 where
+  pub names-long : length (s .names) ≡ mostTags
+  pub values-long : length (s .values) ≡ piecesLong
+  pub room : tagCount (s .counts) ≤ mostTags
+  pub unused : Unused (tagCount (s .counts)) (s .names) (s .values)

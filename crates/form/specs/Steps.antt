@@ -1,55 +1,45 @@
--- One tag more, one relation more, and joining, on the arrays: words/specs/Reader.antt over relations of at most 8 states, at most 16 tags.
+-- One tag more, one piece more, and joining, on the arrays: words/specs/Reader.antt over the pieces of a lore, at most 16 tags.
 use mathlib.Core.Path.{_≡_}
 use mathlib.Core.List.{List}
-use Prim.Native.Nat.{ℕ, _+_, _≤_}
-use lib.ListN.{getD}
+use Prim.Native.Nat.{ℕ}
 use Rattle.words.specs.Tags.{Tag}
 use Rattle.words.specs.Reader.{Limited, fits, differs, too-deep, step, limit, then-value-within, join-within}
-use Rattle.hedge.specs.Schema.{RulesBelow, EndsBelow}
-use Rattle.hedge.specs.Operations.{relations, unit}
-use Rattle.form.specs.Held.{stackOf, Holds}
+use Rattle.pieces.specs.declared.Piece.{Piece}
+use Rattle.pieces.specs.Pieces.{mostTags, pieces}
+use Rattle.form.specs.Held.{summaryOf, formOf, lastOf, Holds}
+use Rattle.form.specs.declared.Summary.{Summary}
 use Rattle.form.specs.declared.Step.{Step}
 use Rattle.form.specs.declared.Step.the-variants.{Kept, Mismatch, TooDeep}
 
--- what a caller lends beside the arrays: a schema of at most 8 states, and the relation of the empty word under it
-pub record Schooled (states : ℕ) (schema endings : List ℕ) (empty : ℕ) : Type 0 where
-  pub few : states ≤ 8
-  pub rules-below : RulesBelow 8 schema
-  pub ends-below : EndsBelow 8 endings
-  pub empty-word : empty ≡ unit 8 states
-
--- the form that the arrays hold: the tags, and the relation after them
-abbrev pub held : ℕ → ℕ → List ℕ → List ℕ → Limited ℕ
-held e s names values = fits (stackOf e names values (e + s)) (getD values (e + s) 0)
+-- the form that a summary holds: the tags, and the piece after them
+abbrev pub held : Summary → Limited Piece
+held s = fits (formOf s) (lastOf s)
 
 -- what the arrays hold after a step, or its refusal
-unfoldable pub outcome : Step → List ℕ → List ℕ → Limited ℕ
-outcome (Kept e s) names values = held e s names values
+unfoldable pub outcome : Step → List ℕ → List ℕ → Limited Piece
+outcome (Kept c) names values = held (summaryOf c names values)
 outcome (Mismatch a b) names values = differs a b
 outcome TooDeep names values = too-deep
 
 abbrev pub HoldsAfter : Step → List ℕ → List ℕ → Type 0
-HoldsAfter (Kept e s) names values = Holds e s names values
+HoldsAfter (Kept c) names values = Holds (summaryOf c names values)
 HoldsAfter (Mismatch a b) names values = Unit {0}
 HoldsAfter TooDeep names values = Unit {0}
 
 -- the step and the arrays after it say o
-pub record Stepped (r : Step) (names values : List ℕ) (o : Limited ℕ) : Type 0 where
+pub record Stepped (r : Step) (names values : List ℕ) (o : Limited Piece) : Type 0 where
   pub says : outcome r names values ≡ o
-  pub tidy : HoldsAfter r names values
+  pub holds : HoldsAfter r names values
 
-module _ (states : ℕ) (schema endings : List ℕ) where
+module _ (lore : List ℕ) where
   -- one tag more
-  unfoldable pub after-tag : ℕ → ℕ → List ℕ → List ℕ → Tag → Limited ℕ
-  after-tag e s names values t =
-      limit (relations 8 states schema endings) 16
-      (step (relations 8 states schema endings) (stackOf e names values (e + s)) (getD values (e + s) 0) t)
+  unfoldable pub after-tag : Summary → Tag → Limited Piece
+  after-tag s t = limit (pieces lore) mostTags (step (pieces lore) (formOf s) (lastOf s) t)
 
-  -- one tag and a balanced word of the relation r more
-  unfoldable pub after-turn : ℕ → ℕ → List ℕ → List ℕ → Tag → ℕ → Limited ℕ
-  after-turn e s names values t r = then-value-within (relations 8 states schema endings) (after-tag e s names values t) r
+  -- one tag and a balanced word of the piece p more
+  unfoldable pub after-turn : Summary → Tag → Piece → Limited Piece
+  after-turn s t p = then-value-within (pieces lore) (after-tag s t) p
 
-  -- a whole form more: its first n tags, which it holds in arrays of its own, and the relation after them
-  unfoldable pub after-form : ℕ → ℕ → List ℕ → List ℕ → ℕ → List ℕ → List ℕ → ℕ → Limited ℕ
-  after-form e s names values e′ names′ values′ n =
-      join-within (relations 8 states schema endings) 16 (held e s names values) (stackOf e′ names′ values′ n) (getD values′ n 0)
+  -- a whole form more
+  unfoldable pub after-form : Summary → Summary → Limited Piece
+  after-form s more = join-within (pieces lore) mostTags (held s) (formOf more) (lastOf more)

@@ -1,243 +1,273 @@
-// A reduced form held in two lent arrays, 16 names and 17 relations, with the numbers of its ends and starts beside them; one tag more,
-// and a whole form more. The arrays are lent, and no struct goes by value, because a copy for each tag would take most of the time.
+// A reduced form held in two lent arrays, the names of its tags and its pieces, with the numbers of its ends and starts beside them; one tag
+// more, a whole form more, and the two tests at a page's end. The arrays are lent, and no summary goes by value, because a copy for each
+// tag would take most of the time.
 ghost use mathlib.Core.Path.{_≡_};
 ghost use Prim.Native.Nat.{_+_, _-_, _<_, _≤_};
 ghost use mathlib.Core.Bool.{true};
-ghost use lib.ListN.{getD, set};
-ghost use Rattle.hedge.specs.Operations.{unit, compose, wrap};
-ghost use Rattle.form.specs.Held.{tagOf, Holds};
-ghost use Rattle.form.specs.Steps.{Schooled, Stepped, after-tag, after-turn, after-form};
+ghost use lib.ListN.{set};
+ghost use Rattle.words.specs.Reduced.{Stack, tags};
+ghost use Rattle.hedge.specs.Schema.{mostStates};
+ghost use Rattle.lore.specs.Lore.{IsLore};
+ghost use Rattle.pieces.specs.declared.Piece.{Piece};
+ghost use Rattle.pieces.specs.Pieces.{mostTags, zeroPiece, pieceAt, putPiece, pieces};
+ghost use Rattle.form.specs.Held.{tagOf, tagCount, summaryOf, Holds};
+ghost use Rattle.form.specs.Steps.{Stepped, after-tag, after-turn, after-form};
+ghost use Rattle.form.specs.Endings.{balanceOf, endingOf};
+
+// How many unmatched ends and starts.
+pub struct Counts {
+    pub ends: usize,
+    pub starts: usize,
+}
+
+// A reduced form by value: the numbers of its unmatched ends and starts, the names of the tags in their order, and the piece before each
+// tag and after the last.
+pub struct Summary {
+    pub counts: Counts,
+    pub names: [u8; pieces::TAGS],
+    pub values: [u64; pieces::PIECES],
+}
 
 // After a tag: kept, with so many ends and starts; a start and an end of different names met; more than 16 tags.
 pub enum Step {
-    Kept(usize, usize),
+    Kept(Counts),
     Mismatch(u8, u8),
     TooDeep,
 }
 
-// A tag behind the n first, and the relation of the empty word behind it.
-fn put_tag(names: &mut [u8; 16], values: &mut [u64; 17], n: usize, name: u8, empty: u64)
-    requires { ⌜ n < 16 ⌝ }
+// The piece of what is balanced, or tags left unmatched.
+pub enum Balance {
+    Whole(pieces::Piece),
+    Unmatched,
+}
+
+// What the two tests at a page's end say.
+pub enum Ending {
+    Page,
+    Unmatched,
+    NotDerived,
+}
+
+pub fn counted(ends: usize, starts: usize) -> Counts
+    ensures { λ r. ⌜ r ≡ record { ends = ends; starts = starts } ⌝ }
+{
+    Counts {
+        ends: ends,
+        starts: starts,
+    }
+}
+
+// A tag behind the n first, and the empty word's piece behind it.
+fn put_tag(
+    names: &mut [u8; pieces::TAGS],
+    values: &mut [u64; pieces::PIECES],
+    n: usize,
+    name: u8,
+    empty: pieces::Piece,
+)
+    requires { ⌜ n < mostTags ⌝ }
     ensures { λ r. ⌜ (now (names .exit) ≡ set (now (names .entry)) n name)
-        × (now (values .exit) ≡ set (now (values .entry)) (n + 1) empty) ⌝ }
+        × (now (values .exit) ≡ putPiece (now (values .entry)) (n + 1) empty) ⌝ }
 {
     names[n] = name;
-    values[n + 1] = empty;
+    pieces::put_piece(values, n + 1, empty);
 }
 
-// The last of n tags goes, and one relation takes the place of the two beside it.
-fn take_tag(names: &mut [u8; 16], values: &mut [u64; 17], n: usize, value: u64)
-    requires { ⌜ (0 < n) × (n ≤ 16) ⌝ }
+// The last of n tags goes, and one piece takes the place of the two beside it.
+fn take_tag(
+    names: &mut [u8; pieces::TAGS],
+    values: &mut [u64; pieces::PIECES],
+    n: usize,
+    value: pieces::Piece,
+)
+    requires { ⌜ (0 < n) × (n ≤ mostTags) ⌝ }
     ensures { λ r. ⌜ (now (names .exit) ≡ set (now (names .entry)) (n - 1) 0)
-        × (now (values .exit) ≡ set (set (now (values .entry)) n 0) (n - 1) value) ⌝ }
+        × (now (values .exit) ≡ putPiece (putPiece (now (values .entry)) n zeroPiece) (n - 1) value) ⌝ }
 {
     names[n - 1] = 0;
-    values[n] = 0;
-    values[n - 1] = value;
+    pieces::put_piece(values, n, pieces::no_piece());
+    pieces::put_piece(values, n - 1, value);
 }
 
-// The relation of a word and, behind it, the element of this name around another word.
+// The piece of a word and, behind it, the element of this name around another word.
 fn closed(
-    schema: &[u8],
-    endings: &[u8],
-    states: usize,
-    empty: u64,
+    lore: &[u64; lore::LORE],
     name: u8,
-    before: u64,
-    inner: u64,
-) -> u64
-    requires { ⌜ Schooled states (now schema) (now endings) empty ⌝ }
-    ensures { λ r. ⌜ r ≡ compose 8 states before (wrap 8 (now (schema .entry)) (now (endings .entry)) name inner) ⌝ }
+    before: pieces::Piece,
+    inner: pieces::Piece,
+) -> pieces::Piece
+    requires { ⌜ IsLore mostStates (now lore) ⌝ }
+    ensures { λ r. ⌜ r ≡ pieces (now (lore .entry)) .compose before (pieces (now (lore .entry)) .wrap name inner) ⌝ }
 {
-    let element = hedge::wrap(schema, endings, name, inner);
-    hedge::follow(states, empty, before, element)
+    let element = pieces::element(lore, name, inner);
+    pieces::follow(lore, before, element)
 }
 
 // An end tag where starts stand unmatched: it meets the innermost.
 fn meet(
-    schema: &[u8],
-    endings: &[u8],
-    states: usize,
-    empty: u64,
-    names: &mut [u8; 16],
-    values: &mut [u64; 17],
-    ends: usize,
-    starts: usize,
+    lore: &[u64; lore::LORE],
+    names: &mut [u8; pieces::TAGS],
+    values: &mut [u64; pieces::PIECES],
+    c: Counts,
     name: u8,
 ) -> Step
-    requires { ⌜ Schooled states (now schema) (now endings) empty ⌝ }
-    requires { ⌜ Holds ends starts (now names) (now values) ⌝ }
-    requires { ⌜ 0 < starts ⌝ }
+    requires { ⌜ IsLore mostStates (now lore) ⌝ }
+    requires { ⌜ Holds (summaryOf c (now names) (now values)) ⌝ }
+    requires { ⌜ 0 < c .starts ⌝ }
     ensures { λ r. ⌜ Stepped r (now (names .exit)) (now (values .exit))
-        (after-tag states (now (schema .entry)) (now (endings .entry)) ends starts (now (names .entry)) (now (values .entry)) (tagOf true name)) ⌝ }
+        (after-tag (now (lore .entry)) (summaryOf c (now (names .entry)) (now (values .entry))) (tagOf true name)) ⌝ }
 {
-    let n = ends + starts;
+    let n = c.ends + c.starts;
     let open = names[n - 1];
     if open != name {
         return Step::Mismatch(open, name);
     }
     let value = closed(
-        schema,
-        endings,
-        states,
-        empty,
+        lore,
         name,
-        values[n - 1],
-        values[n],
+        pieces::piece_at(values, n - 1),
+        pieces::piece_at(values, n),
     );
     take_tag(names, values, n, value);
-    Step::Kept(ends, starts - 1)
+    Step::Kept(counted(c.ends, c.starts - 1))
 }
 
-// One tag more.
+// One tag more. Callers pass `closes` as a constant, one call for each kind: the loop over bytes then has the start tag's path in it.
 pub fn then_tag(
-    schema: &[u8],
-    endings: &[u8],
-    states: usize,
-    empty: u64,
-    names: &mut [u8; 16],
-    values: &mut [u64; 17],
-    ends: usize,
-    starts: usize,
+    lore: &[u64; lore::LORE],
+    names: &mut [u8; pieces::TAGS],
+    values: &mut [u64; pieces::PIECES],
+    c: Counts,
     closes: bool,
     name: u8,
 ) -> Step
-    requires { ⌜ Schooled states (now schema) (now endings) empty ⌝ }
-    requires { ⌜ Holds ends starts (now names) (now values) ⌝ }
+    requires { ⌜ IsLore mostStates (now lore) ⌝ }
+    requires { ⌜ Holds (summaryOf c (now names) (now values)) ⌝ }
     ensures { λ r. ⌜ Stepped r (now (names .exit)) (now (values .exit))
-        (after-tag states (now (schema .entry)) (now (endings .entry)) ends starts (now (names .entry)) (now (values .entry)) (tagOf closes name)) ⌝ }
+        (after-tag (now (lore .entry)) (summaryOf c (now (names .entry)) (now (values .entry))) (tagOf closes name)) ⌝ }
 {
-    let n = ends + starts;
+    let n = c.ends + c.starts;
     if closes {
-        if 0 < starts {
-            return meet(
-                schema,
-                endings,
-                states,
-                empty,
-                names,
-                values,
-                ends,
-                starts,
-                name,
-            );
+        if 0 < c.starts {
+            return meet(lore, names, values, c, name);
         }
-        if 16 <= n {
+        if pieces::TAGS <= n {
             return Step::TooDeep;
         }
-        put_tag(names, values, n, name, empty);
-        return Step::Kept(ends + 1, 0);
+        put_tag(names, values, n, name, pieces::empty(lore));
+        return Step::Kept(counted(c.ends + 1, 0));
     }
-    if 16 <= n {
+    if pieces::TAGS <= n {
         return Step::TooDeep;
     }
-    put_tag(names, values, n, name, empty);
-    Step::Kept(ends, starts + 1)
+    put_tag(names, values, n, name, pieces::empty(lore));
+    Step::Kept(counted(c.ends, c.starts + 1))
 }
 
-// A balanced word of this relation more, behind n tags.
-fn add_value(values: &mut [u64; 17], states: usize, empty: u64, n: usize, value: u64)
-    requires { ⌜ (states ≤ 8) × (empty ≡ unit 8 states) × (n ≤ 16) ⌝ }
-    ensures { λ r. ⌜ now (values .exit) ≡ set (now (values .entry)) n (compose 8 states (getD (now (values .entry)) n 0) value) ⌝ }
+// A balanced word of this piece more, behind n tags.
+fn add_value(
+    lore: &[u64; lore::LORE],
+    values: &mut [u64; pieces::PIECES],
+    n: usize,
+    value: pieces::Piece,
+)
+    requires { ⌜ IsLore mostStates (now lore) ⌝ }
+    requires { ⌜ n ≤ mostTags ⌝ }
+    ensures { λ r. ⌜ now (values .exit)
+        ≡ putPiece (now (values .entry)) n (pieces (now (lore .entry)) .compose (pieceAt (now (values .entry)) n) value) ⌝ }
 {
-    values[n] = hedge::follow(states, empty, values[n], value);
+    let before = pieces::piece_at(values, n);
+    let both = pieces::follow(lore, before, value);
+    pieces::put_piece(values, n, both);
 }
 
-// One tag more, and a balanced word of this relation.
+// One tag more, and a balanced word of this piece.
 fn turn(
-    schema: &[u8],
-    endings: &[u8],
-    states: usize,
-    empty: u64,
-    names: &mut [u8; 16],
-    values: &mut [u64; 17],
-    ends: usize,
-    starts: usize,
+    lore: &[u64; lore::LORE],
+    names: &mut [u8; pieces::TAGS],
+    values: &mut [u64; pieces::PIECES],
+    c: Counts,
     closes: bool,
     name: u8,
-    value: u64,
+    value: pieces::Piece,
 ) -> Step
-    requires { ⌜ Schooled states (now schema) (now endings) empty ⌝ }
-    requires { ⌜ Holds ends starts (now names) (now values) ⌝ }
+    requires { ⌜ IsLore mostStates (now lore) ⌝ }
+    requires { ⌜ Holds (summaryOf c (now names) (now values)) ⌝ }
     ensures { λ r. ⌜ Stepped r (now (names .exit)) (now (values .exit))
-        (after-turn states (now (schema .entry)) (now (endings .entry)) ends starts (now (names .entry)) (now (values .entry)) (tagOf closes name) value) ⌝ }
+        (after-turn (now (lore .entry)) (summaryOf c (now (names .entry)) (now (values .entry))) (tagOf closes name) value) ⌝ }
 {
-    let s = then_tag(
-        schema,
-        endings,
-        states,
-        empty,
-        names,
-        values,
-        ends,
-        starts,
-        closes,
-        name,
-    );
-    match s {
-        Step::Kept(e, k) => {
-            add_value(values, states, empty, e + k, value);
-            Step::Kept(e, k)
-        }
-        Step::Mismatch(a, b) => Step::Mismatch(a, b),
-        Step::TooDeep => Step::TooDeep,
-    }
+    let s = then_tag(lore, names, values, c, closes, name);
+    let Step::Kept(d) = s else {
+        return s;
+    };
+    add_value(lore, values, d.ends + d.starts, value);
+    Step::Kept(d)
 }
 
-// A whole form more, whose tags and relations stand in arrays of its own, `closing` ends among its tags: the innermost start of the left
-// meets the first end of the right, and so outward.
+// A whole form more, whose tags and pieces stand in arrays of its own: the innermost start of the left meets the first end of the right,
+// and so outward.
 pub fn then_form(
-    schema: &[u8],
-    endings: &[u8],
-    states: usize,
-    empty: u64,
-    names: &mut [u8; 16],
-    values: &mut [u64; 17],
-    ends: usize,
-    starts: usize,
-    tags: &[u8; 16],
-    relations: &[u64; 17],
-    closing: usize,
-    count: usize,
+    lore: &[u64; lore::LORE],
+    names: &mut [u8; pieces::TAGS],
+    values: &mut [u64; pieces::PIECES],
+    c: Counts,
+    tags: &[u8; pieces::TAGS],
+    parts: &[u64; pieces::PIECES],
+    more: Counts,
 ) -> Step
-    requires { ⌜ Schooled states (now schema) (now endings) empty ⌝ }
-    requires { ⌜ Holds ends starts (now names) (now values) ⌝ }
-    requires { ⌜ count ≤ 16 ⌝ }
+    requires { ⌜ IsLore mostStates (now lore) ⌝ }
+    requires { ⌜ Holds (summaryOf c (now names) (now values)) ⌝ }
+    requires { ⌜ tagCount more ≤ mostTags ⌝ }
     ensures { λ r. ⌜ Stepped r (now (names .exit)) (now (values .exit))
-        (after-form states (now (schema .entry)) (now (endings .entry)) ends starts (now (names .entry)) (now (values .entry))
-        closing (now (tags .entry)) (now (relations .entry)) count) ⌝ }
+        (after-form (now (lore .entry)) (summaryOf c (now (names .entry)) (now (values .entry)))
+        (summaryOf more (now (tags .entry)) (now (parts .entry)))) ⌝ }
 {
-    add_value(values, states, empty, ends + starts, relations[0]);
-    let mut e = ends;
-    let mut s = starts;
+    add_value(lore, values, c.ends + c.starts, pieces::piece_at(parts, 0));
+    let closing = more.ends;
+    let count = more.ends + more.starts;
+    let mut d = c;
     let mut k = 0;
     while k < count {
         let t = turn(
-            schema,
-            endings,
-            states,
-            empty,
+            lore,
             names,
             values,
-            e,
-            s,
+            d,
             k < closing,
             tags[k],
-            relations[k + 1],
+            pieces::piece_at(parts, k + 1),
         );
-        match t {
-            Step::Kept(a, b) => {
-                e = a;
-                s = b;
-            }
-            Step::Mismatch(a, b) => {
-                return Step::Mismatch(a, b);
-            }
-            Step::TooDeep => {
-                return Step::TooDeep;
-            }
-        }
+        let Step::Kept(a) = t else {
+            return t;
+        };
+        d = a;
         k += 1;
     }
-    Step::Kept(e, s)
+    Step::Kept(d)
+}
+
+// Is any tag left unmatched?
+fn balance_of(c: Counts, last: pieces::Piece) -> Balance
+    requires { ⌜ tagCount c ≤ mostTags ⌝ }
+    ensures { λ r. ⌜ r ≡ balanceOf c last ⌝ }
+{
+    if 0 < c.ends + c.starts {
+        return Balance::Unmatched;
+    }
+    Balance::Whole(last)
+}
+
+// The two tests at a page's end, on a form with so many tags and this piece after them.
+pub fn ending_of(lore: &[u64; lore::LORE], c: Counts, last: pieces::Piece) -> Ending
+    requires { ⌜ tagCount c ≤ mostTags ⌝ }
+    ensures { λ r. ⌜ ((form : Stack Piece) → tags form ≡ tagCount c → r ≡ endingOf (now (lore .entry)) form last) ⌝ }
+{
+    let b = balance_of(c, last);
+    let Balance::Whole(whole) = b else {
+        return Ending::Unmatched;
+    };
+    if pieces::accepts(lore, whole) {
+        return Ending::Page;
+    }
+    Ending::NotDerived
 }

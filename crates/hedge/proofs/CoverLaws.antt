@@ -4,7 +4,8 @@ use mathlib.Core.Path.{_≡_, refl, sym, ap, _∙_}
 use mathlib.Core.Logic.{_↔_}
 use mathlib.Core.Bool.{Bool, true, false, _||_}
 use Prim.Native.Nat.{ℕ, _+_, _*_, _^_, _<_}
-use lib.Bits.{bitOr, or-lt}
+use native.Mathlib.Omega.{arith}
+use lib.Bits.{bitOr, bitAnd, or-lt, or-add-and, and-le-r}
 use lib.Dec.{ltb}
 use borrow.Author.Tests.{eqb-true, eq-eqb, ltb-true, lt-ltb}
 use Rattle.hedge.specs.Relation.{has, Within}
@@ -24,7 +25,7 @@ has-or : (K r s x z : ℕ) → has K (bitOr r s) x z ≡ (has K r x z || has K s
 unfolding has
 has-or K r s x z = bit-or r s (x * K + z)
 
-module _ (K q r : ℕ) (small : r < 2 ^ (K * K)) where
+module _ (K q r : ℕ) where
   has-full : (x z : ℕ) → x < K → z < K → has K (full K q) x z ≡ below q x z
   unfolding full
   has-full x z hx hz = has-relation K (below q) x z hx hz
@@ -39,8 +40,17 @@ module _ (K q r : ℕ) (small : r < 2 ^ (K * K)) where
       let u : has K (full K q) x z ≡ true = sym (ap (λ (n : ℕ). has K n x z) e) ∙ has-or K r (full K q) x z ∙ rw t in
       below-members q x z .0 (sym (has-full x z hx hz) ∙ u)
 
-  adds-none : ((x z : ℕ) → x < K → z < K → has K r x z ≡ true → (x < q) × (z < q)) → bitOr r (full K q) ≡ full K q
-  adds-none h =
+  -- and is no larger number
+  covered-small : bitOr r (full K q) ≡ full K q → r < 2 ^ (K * K)
+  covered-small e =
+      let small = full-lt in
+      let sum = or-add-and r (full K q) in
+      let low = and-le-r r (full K q) in
+      let same : bitAnd r (full K q) ≡ r = omega arith in
+      omega arith
+
+  adds-none : r < 2 ^ (K * K) → ((x z : ℕ) → x < K → z < K → has K r x z ≡ true → (x < q) × (z < q)) → bitOr r (full K q) ≡ full K q
+  adds-none small h =
       relation-ext K (bitOr r (full K q)) (full K q) (or-lt (K * K) r (full K q) small full-lt) full-lt
       (λ x z hx hz. has-or K r (full K q) x z ∙ pair x z hx hz (has K r x z) refl)
     where
@@ -51,6 +61,6 @@ module _ (K q r : ℕ) (small : r < 2 ^ (K * K)) where
   pub covers-within : (covers (full K q) r ≡ true) ↔ Within K q r
   unfolding covers
   covers-within = (
-    λ t. record { small = small; states = covered (eqb-true _ _ t) },
-    λ w. eq-eqb _ _ (adds-none (w .states)),
+    λ t. let e = eqb-true _ _ t in record { small = covered-small e; states = covered e },
+    λ w. eq-eqb _ _ (adds-none (w .small) (w .states)),
   )

@@ -4,4 +4,5 @@ pub mod Relates
 pub mod NumberLaws
 pub mod UnitLaws
 pub mod LoopLaws
+pub mod LaneLaws
 pub mod CoverLaws

@@ -12,7 +12,7 @@ use lib.ListN.{length}
 use Rattle.words.specs.Tags.{Tag}
 use Rattle.words.specs.Binoid.{Laws, Value}
 use Rattle.words.proofs.ValueLaws.{value-balanced, value-good}
-use Rattle.hedge.specs.Schema.{Schema, Derives, Valid, schema, RulesBelow, EndsBelow}
+use Rattle.hedge.specs.Schema.{Schema, Derives, Valid, schemaFrom, RulesBelow, EndsBelow}
 use Rattle.hedge.specs.Relation.{has, RelationOf, Within}
 use Rattle.hedge.specs.Operations.{same, linked, wrapped, unit, compose, wrap, relations, accepts}
 use Rattle.numbers.proofs.TestLaws.{ext-true}
@@ -90,12 +90,12 @@ module _ (K q : ℕ) (fits : q ≤ K) where
   module _ (rules ends : List ℕ) (rules-below : RulesBelow q rules) (ends-below : EndsBelow q ends) where
     -- ---- an element
 
-    rule-states-below : {x a y z : ℕ} → schema q rules ends .Rule x a y z → (x < q) × (y < q) × (z < q)
+    rule-states-below : {x a y z : ℕ} → schemaFrom q rules ends .Rule x a y z → (x < q) × (y < q) × (z < q)
     rule-states-below (i, hi, ex, ea, ey, ez) =
         let (hx, hy, hz) = rules-below i hi in
         (rw (← ex) hx, rw (← ey) hy, rw (← ez) hz)
 
-    pub ending-below : (t : ℕ) → schema q rules ends .Ending t → t < q
+    pub ending-below : (t : ℕ) → schemaFrom q rules ends .Ending t → t < q
     ending-below t (j, hj, e) = rw (← e) (ends-below j hj)
 
     pub within-wrap : (a r : ℕ) → Within K q (wrap K rules ends a r)
@@ -110,7 +110,7 @@ module _ (K q : ℕ) (fits : q ≤ K) where
 
     pub wrap-pairs : (a r x z : ℕ)
         → Member K (wrap K rules ends a r) x z
-        ↔ ((y t : ℕ) × schema q rules ends .Rule x a y z × Member K r y t × schema q rules ends .Ending t)
+        ↔ ((y t : ℕ) × schemaFrom q rules ends .Rule x a y z × Member K r y t × schemaFrom q rules ends .Ending t)
     wrap-pairs a r x z = (
       λ m.
           let (hx, hz, u) = m in
@@ -125,7 +125,7 @@ module _ (K q : ℕ) (fits : q ≤ K) where
 
     -- ---- the instance
 
-    abbrev pub relations-relate : Relates (relations K q rules ends) (schema q rules ends)
+    abbrev pub relations-relate : Relates (relations K q rules ends) (schemaFrom q rules ends)
     relations-relate =
         record {
           Good = Within K q;
@@ -147,7 +147,7 @@ module _ (K q : ℕ) (fits : q ≤ K) where
     -- ---- the value of a balanced word
 
     pub relation-of-value : {w : List Tag} {r : ℕ} → Value (relations K q rules ends) w r
-        → RelationOf K (schema q rules ends) w r
+        → RelationOf K (schemaFrom q rules ends) w r
     relation-of-value p =
         record {
           small = value-good (relations K q rules ends) relations-laws p .small;
@@ -160,7 +160,7 @@ module _ (K q : ℕ) (fits : q ≤ K) where
     -- ---- acceptance
 
     pub derives-accepts : {w : List Tag} {r : ℕ} → Value (relations K q rules ends) w r
-        → (accepts K ends r ≡ true) ↔ Derives (schema q rules ends) 0 w
+        → (accepts K ends r ≡ true) ↔ Derives (schemaFrom q rules ends) 0 w
     unfolding accepts
     derives-accepts {r = r} p = (
       λ u.
@@ -173,7 +173,7 @@ module _ (K q : ℕ) (fits : q ≤ K) where
     )
 
     pub valid-accepts : {w : List Tag} {r : ℕ} → Value (relations K q rules ends) w r
-        → (accepts K ends r ≡ true) ↔ Valid (schema q rules ends) w
+        → (accepts K ends r ≡ true) ↔ Valid (schemaFrom q rules ends) w
     valid-accepts p = (
       λ u. (value-balanced (relations K q rules ends) p, derives-accepts p .0 u),
       λ v. derives-accepts p .1 (v .1),

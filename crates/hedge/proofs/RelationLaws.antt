@@ -15,7 +15,7 @@ use lib.ListN.{length, getD}
 use lib.Pow.{pow-pos, pow-lt}
 use borrow.Author.Tests.{eqb-true, ltb-true, eq-eqb, lt-ltb}
 use Rattle.numbers.specs.Fields.{field}
-use Rattle.hedge.specs.Schema.{schema}
+use Rattle.hedge.specs.Schema.{schemaFrom}
 use Rattle.numbers.specs.Bits.{bit}
 use Rattle.hedge.specs.Relation.{has}
 use Rattle.hedge.specs.Operations.{same, linked, ended, onePair, fires, wrapped, lowest, relation, unit, compose, wrap}
@@ -109,7 +109,7 @@ linked-members q f g x z = (
 
 module _ (q : ℕ) (rules ends : List ℕ) where
   pub ended-members : (f : ℕ → ℕ → Bool) (y : ℕ)
-      → (ended ends f y ≡ true) ↔ ((t : ℕ) × (f y t ≡ true) × schema q rules ends .Ending t)
+      → (ended ends f y ≡ true) ↔ ((t : ℕ) × (f y t ≡ true) × schemaFrom q rules ends .Ending t)
   unfolding ended
   ended-members f y = (
     λ t. let (j, h, u) = any-out (length ends) _ t in (getD ends j 0, u, (j, h, refl)),
@@ -118,7 +118,7 @@ module _ (q : ℕ) (rules ends : List ℕ) where
 
   pub wrapped-members : (a : ℕ) (f : ℕ → ℕ → Bool) (x z : ℕ)
       → (wrapped rules ends a f (length rules / 4) x z ≡ true)
-      ↔ ((y t : ℕ) × schema q rules ends .Rule x a y z × (f y t ≡ true) × schema q rules ends .Ending t)
+      ↔ ((y t : ℕ) × schemaFrom q rules ends .Rule x a y z × (f y t ≡ true) × schemaFrom q rules ends .Ending t)
   unfolding wrapped fires onePair
   wrapped-members a f x z = (
     λ u.
@@ -153,7 +153,7 @@ module _ (K q : ℕ) where
 
   pub wrap-members : (rules ends : List ℕ) (a r x z : ℕ) → x < K → z < K
       → (has K (wrap K rules ends a r) x z ≡ true)
-      ↔ ((y t : ℕ) × schema q rules ends .Rule x a y z × (has K r y t ≡ true) × schema q rules ends .Ending t)
+      ↔ ((y t : ℕ) × schemaFrom q rules ends .Rule x a y z × (has K r y t ≡ true) × schemaFrom q rules ends .Ending t)
   unfolding wrap
   wrap-members rules ends a r x z hx hz =
       members-equal (has-relation K (wrapped rules ends a (has K r) (length rules / 4)) x z hx hz)

@@ -1,19 +1,22 @@
 -- The empty word before another. The unit of q states composed with a relation leaves its first q rows, which are its remainder by
--- 2 ^ (q * K): a pair (x, z) is on either side exactly when x is below q and the relation has it. Assumes nothing.
+-- 2 ^ (q * K): a pair (x, z) is on either side exactly when x is below q and the relation has it. So the unit of q states is the first
+-- q rows of that of all states. Assumes nothing.
 use mathlib.Core.Path.{_≡_, refl, sym, ap, _∙_}
-use mathlib.Core.Bool.{true, false, false≢true}
+use mathlib.Core.Bool.{Bool, true, false, false≢true, _&&_, and-true, and-false}
 use Prim.Native.Nat.{ℕ, _+_, _-_, _*_, _/_, _%_, _^_, _≤_, _<_}
 use native.Mathlib.Nat.{mod-lt, mod-le, lt-of-lt-of-le, lt-of-le-of-lt, le-trans, le-add-right, mul-le-mul-right}
 use native.Mathlib.Decide.{decLt}
 use native.Mathlib.Omega.{arith}
 use lib.Arith.{digits-lt}
+use lib.Dec.{ltb}
 use lib.Pow.{pow-pos, field, mod-mod-pow}
+use borrow.Author.Tests.{lt-ltb, le-ltb}
 use Rattle.numbers.specs.Bits.{bit}
 use Rattle.hedge.specs.Relation.{has}
-use Rattle.hedge.specs.Operations.{linked, unit, compose}
+use Rattle.hedge.specs.Operations.{same, linked, relation, unit, compose}
 use Rattle.numbers.proofs.TestLaws.{ext-true}
 use Rattle.numbers.proofs.BitLaws.{digit-bit, bit-digit, bit-past}
-use Rattle.hedge.proofs.RelationLaws.{relation-lt, relation-ext, unit-members, compose-members}
+use Rattle.hedge.proofs.RelationLaws.{has-relation, relation-lt, relation-ext, relation-cong, unit-members, compose-members}
 
 -- ---- bits of a remainder
 
@@ -59,3 +62,24 @@ module _ (K q r : ℕ) where
     unit-compose small =
         relation-ext K (compose K q (unit K q) r) (r % 2 ^ (q * K)) (relation-lt K (linked q (has K (unit K q)) (has K r)))
         (lt-of-le-of-lt (mod-le r (2 ^ (q * K))) small) same-pairs
+
+-- ---- the first q rows of a relation, and of the unit
+
+module _ (K q : ℕ) (fits : q ≤ K) where
+  row-there : (f : ℕ → ℕ → Bool) (x z : ℕ) → x < K → z < K → Dec (x < q)
+      → has K (relation K f % 2 ^ (q * K)) x z ≡ (f x z && ltb x q)
+  row-there f x z hx hz (yes h) =
+      row-kept K q (relation K f) x z h hz ∙ has-relation K f x z hx hz ∙ rw (lt-ltb x q h, and-true)
+  row-there f x z hx hz (no h) = row-gone K q (relation K f) x z (omega arith) ∙ rw (le-ltb x q (omega arith), and-false)
+
+  pub relation-first-rows : (f : ℕ → ℕ → Bool) → relation K f % 2 ^ (q * K) ≡ relation K (λ x z. f x z && ltb x q)
+  relation-first-rows f =
+      relation-ext K (relation K f % 2 ^ (q * K)) (relation K (λ x z. f x z && ltb x q))
+      (lt-of-le-of-lt (mod-le (relation K f) (2 ^ (q * K))) (relation-lt K f)) (relation-lt K (λ x z. f x z && ltb x q))
+      (λ x z hx hz. row-there f x z hx hz (decLt x q) ∙ sym (has-relation K (λ x z. f x z && ltb x q) x z hx hz))
+
+  pub unit-first-rows : unit K K % 2 ^ (q * K) ≡ unit K q
+  unfolding unit same
+  unit-first-rows =
+      relation-first-rows (same K)
+      ∙ relation-cong K (λ x z. same K x z && ltb x q) (same q) (λ x z hx hz. rw (lt-ltb x K hx, and-true))

@@ -66,6 +66,9 @@ relations K q rules ends = record { H = ℕ; unit = unit K q; compose = compose 
 unfoldable pub below : ℕ → ℕ → ℕ → Bool
 below q x z = ltb x q && ltb z q
 
+unfoldable pub belowBit : ℕ → ℕ → Bool
+belowBit q z = ltb z q
+
 unfoldable pub full : ℕ → ℕ → ℕ
 full K q = relation K (below q)
 

@@ -9,6 +9,10 @@ use Rattle.numbers.specs.Fields.{field}
 use Rattle.words.specs.Tags.{Tag, start, end}
 use Rattle.words.specs.Balance.{Balanced}
 
+-- the most states
+abbrev pub mostStates : ℕ
+mostStates = 8
+
 -- the number of states, the rules, and the ending states
 pub record Schema : Type 1 where
   pub states : ℕ
@@ -32,8 +36,8 @@ abbrev pub Valid : Schema → List Tag → Type 0
 Valid S w = Balanced w × Derives S 0 w
 
 -- the schema of a list of rules and a list of ending states
-abbrev pub schema : ℕ → List ℕ → List ℕ → Schema
-schema states rules ends =
+abbrev pub schemaFrom : ℕ → List ℕ → List ℕ → Schema
+schemaFrom states rules ends =
     record {
       states = states;
       Rule = λ x a y z.

@@ -1,4 +1,3 @@
-pub mod EndingLaws
 pub mod PageLaws
 pub mod UniqueLaws
 pub mod FragmentLaws

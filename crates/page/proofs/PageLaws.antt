@@ -1,111 +1,60 @@
--- A page's reply from the summary of its bytes. The bytes spell a word whose reduced form the summary packs. A word is balanced exactly
--- when its form has no tags, and a form is the word's only one: so tags left say that the word is not balanced; and where none is left
--- the one relation is the word's value, which state 0 accepts exactly when it derives the word. Assumes nothing.
-use mathlib.Core.Path.{_≡_, refl, sym, ap, _∙_, subst}
-use mathlib.Core.Bool.{Bool, true, false, false≢true}
+-- A page's reply from the reply of the same bytes as a fragment. A refusal is the same. Else the bytes spell a word whose reduced form the
+-- summary packs, and what the two tests at the end answer of that form is so of the word (schema/proofs/SchemaLaws.antt). Assumes nothing.
+use mathlib.Core.Path.{_≡_, ap, _∙_, subst}
 use mathlib.Core.List.{List}
-use mathlib.Core.Logic.{_↔_, _⊎_, inl, inr}
-use Prim.Native.Nat.{ℕ, _≤_, _<_}
-use native.Mathlib.Decide.{decLt}
-use native.Mathlib.Omega.{arith}
-use lib.ListN.{getD}
+use Prim.Native.Nat.{ℕ}
 use borrow.Author.Needs.{needs}
 use Rattle.words.specs.Tags.{Tag}
-use Rattle.words.specs.Balance.{Balanced}
-use Rattle.words.specs.Binoid.{Value}
-use Rattle.words.specs.Reduced.{tags, Reduced}
-use Rattle.words.proofs.ValueLaws.{value-balanced}
-use Rattle.words.proofs.ReducedLaws.{reduced-whole}
-use Rattle.words.proofs.ReadLaws.{balanced-bottom}
-use Rattle.hedge.specs.Schema.{Derives, Valid}
-use Rattle.hedge.specs.Operations.{accepts}
-use Rattle.hedge.proofs.NumberLaws.{derives-accepts}
-use Rattle.template.specs.Layout.{names, states, schemaRules, endingStates}
+use Rattle.words.specs.Reduced.{Stack, tags, Reduced}
+use Rattle.pieces.specs.declared.Piece.{Piece}
+use Rattle.pieces.specs.Pieces.{mostTags, pieces}
+use Rattle.template.specs.Layout.{nameCount}
 use Rattle.template.specs.Order.{IsSound}
-use Rattle.template.proofs.SoundLaws.{sound-file}
-use Rattle.template.proofs.GrammarLaws.{schema-rules-below, endings-below}
-use Rattle.form.specs.Held.{stackOf}
-use Rattle.form.proofs.HeldLaws.{stack-none, tags-held}
-use Rattle.reader.specs.Reads.{Spelled, AllReadable}
+use Rattle.template.proofs.ShapeLaws.{read-is}
+use Rattle.form.specs.Held.{tagCount, formOf, lastOf, Holds}
+use Rattle.form.specs.Endings.{endingOf}
+use Rattle.form.specs.declared.Summary.{Summary}
+use Rattle.form.specs.declared.Ending.{Ending}
+use Rattle.form.specs.declared.Ending.the-variants as ending
+use Rattle.form.proofs.HeldLaws.{tags-held}
+use Rattle.schema.specs.Schemas.{binoidOf, LoreOf}
+use Rattle.schema.proofs.SchemaLaws.{Means, ending-means}
+use Rattle.reader.specs.Reads.{Spelled, AllReadable, Reads}
 use Rattle.reader.proofs.ReadsLaws.{reads-finding}
-use Rattle.summary.specs.declared.Summary.{Summary}
 use Rattle.summary.specs.declared.FragmentAnswer.{FragmentAnswer}
 use Rattle.summary.specs.declared.FragmentAnswer.the-variants as fragment
 use Rattle.summary.specs.declared.FragmentReply.{FragmentReply}
-use Rattle.summary.specs.Packing.{count, form, last}
-use Rattle.template.specs.Schemas.{schemaOf, binoidOf}
-use Rattle.summary.specs.Fragments.{FragmentAnswers, FragmentSays}
-use Rattle.template.proofs.ShapeLaws.{lawsOf, read-is}
-use Rattle.page.specs.declared.Balance.the-variants as balance
+use Rattle.summary.specs.Fragments.{FragmentAnswers, FragmentSays, FragmentFinds}
+use Rattle.summary.proofs.FragmentLaws.{taught-lore, says-found}
 use Rattle.page.specs.declared.PageReply.{PageReply}
 use Rattle.page.specs.declared.PageReply.the-variants as page
-use Rattle.page.specs.Pages.{PageSays}
-use Rattle.page.specs.Endings.{balanceOf, endOf}
-use Rattle.page.proofs.EndingLaws.{ends-left, starts-left, none-left, end-unmatched, end-valid, end-not-derived}
+use Rattle.page.specs.Pages.{PageSays, replyOf}
 
-module _ (f : List ℕ) where
-  -- ---- the three replies at a page's end, by its word
+-- ---- the two tests, on the form that a summary packs
 
-  abbrev pub EndSays : List Tag → PageReply → Type 0
-  EndSays w p =
-      (Valid (schemaOf f) w × (p ≡ page.Valid))
-      ⊎ (((Balanced w → ⊥) × (p ≡ page.Unmatched)) ⊎ (Balanced w × (Derives (schemaOf f) 0 w → ⊥) × (p ≡ page.NotDerived)))
+pub tested-is : (lore : List ℕ) (s : Summary) (last : Piece) (e : Ending) (p : PageReply) → last ≡ lastOf s
+    → ((form : Stack Piece) → tags form ≡ tagCount (s .counts) → e ≡ endingOf lore form last)
+    → p ≡ replyOf e → p ≡ replyOf (endingOf lore (formOf s) (lastOf s))
+tested-is lore s last e p is tested said =
+    let held = tags-held (s .counts .ends) (tagCount (s .counts)) (s .names) (s .values) in
+    let same : e ≡ endingOf lore (formOf s) (lastOf s) = rw (← is) (tested (formOf s) held) in
+    said ∙ ap replyOf same
 
-  pub end-page : (bytes : List ℕ) (w : List Tag) (p : PageReply) → IsSound f → AllReadable (names f) (binoidOf f) 16 bytes
-      → Spelled (names f) bytes w → EndSays w p → PageSays f bytes p
-  end-page bytes w p sound all spelled (inl (v, e)) = rw e (sound, all, (w, spelled, v))
-  end-page bytes w p sound all spelled (inr (inl (n, e))) = rw e (sound, all, (w, spelled, n))
-  end-page bytes w p sound all spelled (inr (inr (b, n, e))) = rw e (sound, all, (w, spelled, (b, n)))
+pub summarised-holds : (known : ℕ) (lore bytes : List ℕ) (r : FragmentReply)
+    → FragmentFinds (Reads known (pieces lore) mostTags bytes) (r .answer) (r .summary) → r .answer ≡ fragment.Summarised
+    → Holds (r .summary)
+summarised-holds known lore bytes r found e =
+    let R = Reads known (pieces lore) mostTags bytes in
+    let (t, c, read, packs) = subst (λ a. FragmentFinds R a (r .summary)) e found in
+    packs .holds
 
-  -- ---- a word and its summary
+-- ---- the three replies at a page's end, by its word
 
-  module _ (sound : IsSound f) (w : List Tag) (s : Summary) (reduces : Reduced (binoidOf f) w (form s) (last s)) where
-    balanced-none : Balanced w → count s ≡ 0
-    unfolding tags
-    balanced-none b =
-        sym (tags-held (s .ends) (count s) (s .names) (s .relations)) ∙ ap tags (balanced-bottom (binoidOf f) (lawsOf f sound) b reduces)
-
-    none-value : count s ≡ 0 → Value (binoidOf f) w (getD (s .relations) 0 0)
-    none-value e =
-        let r = subst (λ n. Reduced (binoidOf f) w (stackOf (s .ends) (s .names) (s .relations) n) (getD (s .relations) n 0)) e reduces in
-        reduced-whole (binoidOf f)
-        (subst (λ t. Reduced (binoidOf f) w t (getD (s .relations) 0 0)) (stack-none (s .ends) (s .names) (s .relations)) r)
-
-    -- what the two tests answer
-    abbrev Ended : Type 0
-    Ended = EndSays w (endOf (endingStates f) (balanceOf s))
-
-    unmatched-end : 0 < count s → balance.Unmatched ≡ balanceOf s → Ended
-    unmatched-end l e =
-        inr (inl (λ b. omega (arith, balanced-none b), sym (end-unmatched (endingStates f) s balance.Unmatched e refl)))
-
-    tested-end : s .ends ≤ 0 → s .starts ≤ 0 → (t : Bool) → t ≡ accepts 8 (endingStates f) (getD (s .relations) 0 0) → Ended
-    tested-end h k t test =
-        let r = getD (s .relations) 0 0 in
-        let v = none-value (omega arith) in
-        let file = sound-file f sound in
-        let derives = derives-accepts 8 (states f) (file .few-states) (schemaRules f) (endingStates f)
-        (schema-rules-below f file) (endings-below f file) v in
-        from derives v (none-left s h k r refl) t test
-      where
-        from : {r : ℕ} → (accepts 8 (endingStates f) r ≡ true) ↔ Derives (schemaOf f) 0 w → Value (binoidOf f) w r
-            → balance.Whole r ≡ balanceOf s → (t : Bool) → t ≡ accepts 8 (endingStates f) r → Ended
-        from {r} d v is true test =
-            inl ((value-balanced (binoidOf f) v, d .0 (sym test)), sym (end-valid (endingStates f) s _ is r refl true test refl))
-        from {r} d v is false test =
-            inr (inr (
-              value-balanced (binoidOf f) v,
-              λ q. false≢true (test ∙ d .1 q),
-              sym (end-not-derived (endingStates f) s _ is r refl false test refl),
-            ))
-
-    summary-end : Ended
-    summary-end = from (decLt 0 (s .ends)) (decLt 0 (s .starts))
-      where
-        from : Dec (0 < s .ends) → Dec (0 < s .starts) → Ended
-        from (yes l) k = unmatched-end (omega arith) (ends-left s l)
-        from (no l) (yes k) = unmatched-end (omega arith) (starts-left s (omega arith) k)
-        from (no l) (no k) = tested-end (omega arith) (omega arith) _ refl
+pub end-page : (f bytes : List ℕ) (w : List Tag) (e : Ending) → IsSound f → AllReadable (nameCount f) (binoidOf f) mostTags bytes
+    → Spelled (nameCount f) bytes w → Means f w e → PageSays f bytes (replyOf e)
+end-page f bytes w ending.Page sound all spelled m = (sound, all, (w, spelled, m))
+end-page f bytes w ending.Unmatched sound all spelled m = (sound, all, (w, spelled, m))
+end-page f bytes w ending.NotDerived sound all spelled m = (sound, all, (w, spelled, m))
 
 -- ---- the replies, from the fragment's
 
@@ -113,14 +62,16 @@ module _ (f bytes : List ℕ) (r : FragmentReply) (says : FragmentSays f bytes r
   answered : (a : FragmentAnswer) → r .answer ≡ a → FragmentAnswers f bytes a (r .summary)
   answered a e = subst (λ a. FragmentAnswers f bytes a (r .summary)) e says
 
-  pub summarised-page : r .answer ≡ fragment.Summarised → (p : PageReply) → p ≡ endOf (endingStates f) (balanceOf (r .summary))
+  pub summarised-page : r .answer ≡ fragment.Summarised → (lore : List ℕ) → LoreOf f lore → (p : PageReply)
+      → p ≡ replyOf (endingOf lore (formOf (r .summary)) (lastOf (r .summary)))
       → PageSays f bytes p
-  summarised-page e p is =
+  summarised-page e lore taught p is =
       let (sound, (t, c, read, packs)) = answered fragment.Summarised e in
-      let (all, formed) = reads-finding (names f) (binoidOf f) 16 read in
-      let reduces : Reduced (binoidOf f) (formed .word) (form (r .summary)) (last (r .summary)) =
+      let (all, formed) = reads-finding (nameCount f) (binoidOf f) mostTags read in
+      let reduces : Reduced (binoidOf f) (formed .word) (formOf (r .summary)) (lastOf (r .summary)) =
       rw (packs .form-is, packs .last-is) (formed .reduced) in
-      rw is (end-page f bytes (formed .word) _ sound all (formed .spelled) (summary-end f sound (formed .word) (r .summary) reduces))
+      let end = endingOf lore (formOf (r .summary)) (lastOf (r .summary)) in
+      rw is (end-page f bytes (formed .word) end sound all (formed .spelled) (ending-means f lore sound taught (formed .word) _ _ reduces))
 
   module _ (i : ℕ) where
     pub bad-page : r .answer ≡ fragment.BadFile i → PageSays f bytes (page.BadFile i)
@@ -137,6 +88,9 @@ module _ (f bytes : List ℕ) (r : FragmentReply) (says : FragmentSays f bytes r
 
 pub ruleset page-turns = (
   read-is,
+  taught-lore,
+  says-found,
+  summarised-holds,
   summarised-page,
   bad-page,
   no-tag-page,

@@ -6,20 +6,23 @@ use mathlib.Core.List.{List}
 use Prim.Native.Nat.{ℕ}
 use Rattle.words.specs.Tags.{Tag}
 use Rattle.words.specs.Balance.{Balanced}
-use Rattle.hedge.specs.Schema.{Derives, Valid as IsValid}
-use Rattle.template.specs.Layout.{names}
+use Rattle.hedge.specs.Schema.{Valid as IsValid}
+use Rattle.pieces.specs.Pieces.{mostTags}
+use Rattle.template.specs.Layout.{nameCount}
 use Rattle.template.specs.Order.{IsSound, reading}
 use Rattle.template.specs.declared.Reading.the-variants.{Bad}
 use Rattle.reader.specs.Reads.{Spelled, AllReadable, refused, no-tag, mismatch, too-many}
-use Rattle.template.specs.Schemas.{schemaOf, binoidOf}
+use Rattle.schema.specs.Schemas.{schemaOf, binoidOf}
 use Rattle.summary.specs.Fragments.{ReadUnder}
+use Rattle.form.specs.declared.Ending.{Ending}
+use Rattle.form.specs.declared.Ending.the-variants as ending
 use Rattle.page.specs.declared.PageReply.{PageReply}
 use Rattle.page.specs.declared.PageReply.the-variants.{Valid, BadFile, NotATag, Mismatch, TooDeep, Unmatched, NotDerived}
 
 -- nothing is refused while the bytes are read, and they spell a word of which P holds
 abbrev pub ReadWhole : List ℕ → List ℕ → (List Tag → Type 0) → Type 0
 ReadWhole f bytes P =
-    IsSound f × AllReadable (names f) (binoidOf f) 16 bytes × ((w : List Tag) × Spelled (names f) bytes w × P w)
+    IsSound f × AllReadable (nameCount f) (binoidOf f) mostTags bytes × ((w : List Tag) × Spelled (nameCount f) bytes w × P w)
 
 abbrev pub PageSays : List ℕ → List ℕ → PageReply → Type 0
 PageSays f bytes Valid = ReadWhole f bytes (λ w. IsValid (schemaOf f) w)
@@ -28,7 +31,13 @@ PageSays f bytes (NotATag p) = IsSound f × ReadUnder f bytes (refused no-tag p)
 PageSays f bytes (Mismatch p) = IsSound f × ReadUnder f bytes (refused mismatch p)
 PageSays f bytes (TooDeep p) = IsSound f × ReadUnder f bytes (refused too-many p)
 PageSays f bytes Unmatched = ReadWhole f bytes (λ w. Balanced w → ⊥)
-PageSays f bytes NotDerived = ReadWhole f bytes (λ w. Balanced w × (Derives (schemaOf f) 0 w → ⊥))
+PageSays f bytes NotDerived = ReadWhole f bytes (λ w. Balanced w × (IsValid (schemaOf f) w → ⊥))
+
+-- what the two tests at the end say, as a reply
+abbrev pub replyOf : Ending → PageReply
+replyOf ending.Page = Valid
+replyOf ending.Unmatched = Unmatched
+replyOf ending.NotDerived = NotDerived
 
 -- the reply in document 01's numbers
 abbrev pub answer : PageReply → ℕ

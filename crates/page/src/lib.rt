@@ -1,10 +1,10 @@
 // The page reader: a fragment with two tests at its end. Any file and any bytes may be lent.
 ghost use mathlib.Core.Path.{_≡_};
-ghost use Rattle.template.specs.Layout.{endingStates};
 ghost use Rattle.template.specs.Order.{reading};
 ghost use Rattle.template.specs.declared.Reading.the-variants.{Sound};
-ghost use Rattle.page.specs.Pages.{PageSays, answer, number};
-ghost use Rattle.page.specs.Endings.{balanceOf, endOf};
+ghost use Rattle.form.specs.Held.{formOf, lastOf, Holds};
+ghost use Rattle.form.specs.Endings.{endingOf};
+ghost use Rattle.page.specs.Pages.{PageSays, replyOf, answer, number};
 
 // What the page reader answers, with the place of the fault.
 pub enum PageReply {
@@ -17,39 +17,27 @@ pub enum PageReply {
     NotDerived,
 }
 
-// The relation of what is balanced, or tags left unmatched.
-pub enum Balance {
-    Whole(u64),
-    Unmatched,
+// What the two tests at the end say, as a reply.
+fn reply_of(e: form::Ending) -> PageReply
+    ensures { λ r. ⌜ r ≡ replyOf e ⌝ }
+{
+    match e {
+        form::Ending::Page => PageReply::Valid,
+        form::Ending::Unmatched => PageReply::Unmatched,
+        form::Ending::NotDerived => PageReply::NotDerived,
+    }
 }
 
-// Is any tag left unmatched?
-fn balance_of(s: summary::Summary) -> Balance
-    ensures { λ r. ⌜ r ≡ balanceOf s ⌝ }
+// The two tests at the end of what was read without refusal.
+fn tested(lore: &[u64; lore::LORE], s: form::Summary) -> PageReply
+    requires { ⌜ Holds s ⌝ }
+    ensures { λ r. ⌜ r ≡ replyOf (endingOf (now (lore .entry)) (formOf s) (lastOf s)) ⌝ }
 {
-    if 0 < s.ends {
-        return Balance::Unmatched;
-    }
-    if 0 < s.starts {
-        return Balance::Unmatched;
-    }
-    Balance::Whole(s.relations[0])
-}
-
-// The two tests at the end, under a sound file of these numbers.
-fn tested(file: &[u8], shape: template::Shape, s: summary::Summary) -> PageReply
-    requires { ⌜ reading (now file) ≡ Sound shape ⌝ }
-    ensures { λ r. ⌜ r ≡ endOf (endingStates (now (file .entry))) (balanceOf s) ⌝ }
-{
-    let b = balance_of(s);
-    let Balance::Whole(relation) = b else {
-        return PageReply::Unmatched;
-    };
-    let endings = template::ending_states(file, shape.templates, shape.schema, shape.endings);
-    if hedge::accepts(endings, relation) {
-        return PageReply::Valid;
-    }
-    PageReply::NotDerived
+    let c = s.counts;
+    let values = s.values;
+    let last = pieces::piece_at(&values, c.ends + c.starts);
+    let e = form::ending_of(lore, c, last);
+    reply_of(e)
 }
 
 // Reads a page under a sound file of these numbers.
@@ -57,11 +45,12 @@ fn read_under(file: &[u8], shape: template::Shape, bytes: &[u8]) -> PageReply
     requires { ⌜ reading (now file) ≡ Sound shape ⌝ }
     ensures { λ r. ⌜ PageSays (now (file .entry)) (now (bytes .entry)) r ⌝ }
 {
-    let f = summary::summarise(file, shape, bytes);
+    let mut lore = [0u64; lore::LORE];
+    schema::teach(file, shape, &mut lore);
+    let f = summary::summarise(&lore, shape.names, bytes);
     let a = f.answer;
-    let s = f.summary;
     match a {
-        summary::FragmentAnswer::Summarised => tested(file, shape, s),
+        summary::FragmentAnswer::Summarised => tested(&lore, f.summary),
         summary::FragmentAnswer::BadFile(p) => PageReply::BadFile(p),
         summary::FragmentAnswer::NotATag(p) => PageReply::NotATag(p),
         summary::FragmentAnswer::Mismatch(p) => PageReply::Mismatch(p),

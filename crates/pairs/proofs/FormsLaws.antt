@@ -7,41 +7,43 @@ use Prim.Native.Nat.{ℕ, _+_, _≤_}
 use native.Mathlib.Omega.{arith}
 use native.Mathlib.Numerals.{add-one}
 use borrow.Author.Needs.{needs}
-use Rattle.words.specs.Reduced.{Stack}
 use Rattle.numbers.specs.Bits.{bit}
-use Rattle.pairs.specs.Turns.{FormNoted, was-crowded, stands, finds-no-room, goes-behind}
+use Rattle.words.specs.Reduced.{Stack}
+use Rattle.pieces.specs.declared.Piece.{Piece}
+use Rattle.trees.specs.Events.{Pair}
+use Rattle.worktable.specs.Packed.{mostImages}
+use Rattle.pairs.specs.Turns.{PairNoted, was-crowded, stands, finds-no-room, goes-behind}
 use Rattle.pairs.specs.Turns.{FormsNoted, forms-none, forms-other, forms-more}
-use Rattle.pairs.specs.declared.Notes.{Notes}
 use Rattle.pairs.specs.declared.Tally.{Tally}
 
 -- ---- one form
 
-pub form-room : (endings : List ℕ) (x : ℕ) (s : Stack ℕ) (c : ℕ) (t : List ℕ) (m : ℕ) (notes : Notes) (r : Tally) (t′ : List ℕ) → m ≤ 256
-    → FormNoted endings x s c t m notes r t′ → r .rows ≤ 256
-form-room endings x s c t m notes r t′ h (was-crowded f) = h
-form-room endings x s c t m notes r t′ h (stands row p f) = h
-form-room endings x s c t m notes r t′ h (finds-no-room row p f l) = h
-form-room endings x s c t m notes r t′ h (goes-behind row u p f l q) = omega arith
+pub pair-room : (lore : List ℕ) (p : Pair Piece) (t : List ℕ) (found r : Tally) (t′ : List ℕ) → found .rows ≤ mostImages
+    → PairNoted lore p t found r t′ → r .rows ≤ mostImages
+pair-room lore p t found r t′ h (was-crowded f) = h
+pair-room lore p t found r t′ h (stands row q f) = h
+pair-room lore p t found r t′ h (finds-no-room row q f l) = h
+pair-room lore p t found r t′ h (goes-behind row u q f l a) = omega arith
 
 -- ---- none, next, end
 
-module _ (endings : List ℕ) (marks : ℕ) (s : Stack ℕ) (c : ℕ) (t : List ℕ) (m : ℕ) (notes : Notes) where
-  pub forms-start : FormsNoted endings marks s c t m notes 0 (record { rows = m; notes = notes }) t
+module _ (lore : List ℕ) (marks : ℕ) (s : Stack Piece) (c : Piece) (t : List ℕ) (found : Tally) where
+  pub forms-start : FormsNoted lore marks s c t found 0 found t
   forms-start = forms-none
 
-  module _ (x y : ℕ) (b : Bool) (r : Tally) (t′ : List ℕ) (before : FormsNoted endings marks s c t m notes x r t′) (wide : y ≡ x)
+  module _ (x y : ℕ) (b : Bool) (r : Tally) (t′ : List ℕ) (before : FormsNoted lore marks s c t found x r t′) (wide : y ≡ x)
       (told : b ≡ bit marks y) where
-    pub forms-skip : b ≡ false → FormsNoted endings marks s c t m notes (x + 1) r t′
+    pub forms-skip : b ≡ false → FormsNoted lore marks s c t found (x + 1) r t′
     forms-skip f = rw add-one (forms-other before (sym (ap (bit marks) wide) ∙ sym told ∙ f))
 
-    pub forms-next : (r′ : Tally) (t″ : List ℕ) → b ≡ true → FormNoted endings x s c t′ (r .rows) (r .notes) r′ t″
-        → FormsNoted endings marks s c t m notes (x + 1) r′ t″
+    pub forms-next : (r′ : Tally) (t″ : List ℕ) → b ≡ true → PairNoted lore (record { of = x; form = s; last = c }) t′ r r′ t″
+        → FormsNoted lore marks s c t found (x + 1) r′ t″
     forms-next r′ t″ f w = rw add-one (forms-more before (sym (ap (bit marks) wide) ∙ sym told ∙ f) w)
 
-  pub forms-end : (x : ℕ) (r : Tally) (t′ : List ℕ) → FormsNoted endings marks s c t m notes x r t′ → 64 ≤ x → x ≤ 64
-      → FormsNoted endings marks s c t m notes 64 r t′
+  pub forms-end : (x : ℕ) (r : Tally) (t′ : List ℕ) → FormsNoted lore marks s c t found x r t′ → 64 ≤ x → x ≤ 64
+      → FormsNoted lore marks s c t found 64 r t′
   forms-end x r t′ before l h =
       let e : x ≡ 64 = omega arith in
       rw e at before
 
-pub ruleset forms-laws = (form-room, forms-start, forms-skip, forms-next, forms-end, needs)
+pub ruleset forms-laws = (pair-room, forms-start, forms-skip, forms-next, forms-end, needs)

@@ -1,4 +1,4 @@
-pub mod FormsLaws
 pub mod LoadLaws
 pub mod NoteLaws
+pub mod FormsLaws
 pub mod TurnLaws

@@ -1,25 +1,31 @@
 -- Slots, choices and loading (specs/Slots.antt, specs/Turns.antt), in the words in which the functions that deal with them have it, for
 -- `search loads`. A byte's slot goes by three tests; an empty form, a tag's own form and the form of a row stand in the arrays, and a row
 -- of another nonterminal is no choice. Assumes nothing.
-use mathlib.Core.Path.{_≡_, refl, sym, _∙_}
+use mathlib.Core.Path.{_≡_, sym, ap, subst, _∙_}
 use mathlib.Core.Bool.{Bool, true, false, false≢true}
 use mathlib.Core.List.{List}
 use Prim.Native.Nat.{ℕ, _+_, _-_, _*_, _≤_, _<_}
 use native.Mathlib.Nat.{add-zero}
 use native.Mathlib.Omega.{arith}
 use lib.Dec.{ltb, eqb}
-use lib.ListN.{length, getD, set, take, drop, length-set}
-use lib.Seq.{getD-set-same}
+use lib.ListN.{length, getD, set, take, drop}
 use borrow.Author.Needs.{needs}
 use borrow.Author.Tests.{lt-ltb, le-ltb, eqb-true, eq-eqb}
 use Rattle.numbers.specs.Fields.{field}
-use Rattle.form.specs.Held.{Holds}
-use Rattle.form.proofs.HeldLaws.{stack-none, stack-put-start, stack-put-end, unused-put, unused-value}
+use Rattle.pieces.specs.declared.Piece.{Piece}
+use Rattle.pieces.specs.Pieces.{pieceAt, putPiece}
+use Rattle.pieces.proofs.PieceLaws.{piece-same}
+use Rattle.form.specs.Held.{summaryOf, formOf, lastOf, Holds}
+use Rattle.form.specs.declared.Counts.{Counts}
+use Rattle.form.specs.declared.Summary.{Summary}
+use Rattle.form.proofs.HeldLaws.{stack-none, stack-put-start, stack-put-end}
+use Rattle.form.proofs.TagLaws.{holds-put}
 use Rattle.form.proofs.TurnLaws.{holds-value}
-use Rattle.worktable.specs.Packed.{nonterminalIn, endsIn, startsIn, namesIn, RowOf}
+use Rattle.rows.proofs.TableLaws.{row-part}
+use Rattle.worktable.specs.Packed.{rowWidth, nonterminalIn, summaryIn, RowOf}
 use Rattle.worktable.proofs.RowLaws.{row-nonterminal, row-holds, row-form, row-last}
-use Rattle.worktable.proofs.TableLaws.{row-part}
-use Rattle.pairs.specs.Slots.{rowAt, slotOf, leftSlot, rightSlot}
+use Rattle.pairs.specs.Books.{tableRow}
+use Rattle.pairs.specs.Slots.{slotOf, leftSlot, rightSlot}
 use Rattle.pairs.specs.Turns.{slotFits, rightFrom, SomePairRow, Choosable, TagForm, FormOf, Loads}
 use Rattle.pairs.specs.declared.Slot.{Slot}
 use Rattle.pairs.specs.declared.Slot.the-variants.{Absent, Single, Rows}
@@ -81,98 +87,86 @@ module _ (s : Slot) (k : ℕ) (t : List ℕ) where
   unfolding slotFits
   fits-single closes a e = rw e
 
-  pub fits-rows : (r : Bool) (x : ℕ) → s ≡ Rows x → r ≡ eqb (nonterminalIn (rowAt t k)) x → r ≡ slotFits s k t
+  pub fits-rows : (r : Bool) (x : ℕ) → s ≡ Rows x → r ≡ eqb (nonterminalIn (tableRow t k)) x → r ≡ slotFits s k t
   unfolding slotFits
   fits-rows r x e q = rw e q
 
-  pub row-within : (x : ℕ) → Choosable t s k → s ≡ Rows x → k * 20 + 20 ≤ length t
+  pub row-within : (x : ℕ) → Choosable t s k → s ≡ Rows x → k * rowWidth + rowWidth ≤ length t
   row-within x c e = (rw e at c) .0
 
-  pub row-packs : (x : ℕ) → Choosable t s k → s ≡ Rows x → SomePairRow (rowAt t k)
+  pub row-packs : (x : ℕ) → Choosable t s k → s ≡ Rows x → SomePairRow (tableRow t k)
   row-packs x c e = (rw e at c) .1
 
 -- ---- a row, as a part of the table
 
-pub row-test : (t : List ℕ) (k x v : ℕ) → v ≡ nonterminalIn (take (k * 20 + 20 - k * 20) (drop (k * 20) t))
-    → eqb v x ≡ eqb (nonterminalIn (rowAt t k)) x
-row-test t k x v e = rw (← (row-part (k * 20) t), e)
+pub row-test : (t : List ℕ) (k x v : ℕ) → v ≡ nonterminalIn (take (k * rowWidth + rowWidth - k * rowWidth) (drop (k * rowWidth) t))
+    → eqb v x ≡ eqb (nonterminalIn (tableRow t k)) x
+row-test t k x v e = rw (← (row-part rowWidth (k * rowWidth) t), e)
 
 -- ---- forms in the arrays
 
-module _ (names values : List ℕ) (zeros : Holds 0 0 names values) (empty : ℕ) where
-  module _ (a : ℕ) where
-    holds-tag : (e s : ℕ) → e + s ≡ 1 → Holds e s (set names 0 a) (set (set values 0 empty) 1 empty)
-    holds-tag e s one =
-        record {
-          names-long = length-set names 0 a ∙ zeros .names-long;
-          values-long = length-set (set values 0 empty) 1 empty ∙ length-set values 0 empty ∙ zeros .values-long;
-          room = omega arith;
-          unused = rw one
-              (unused-put 0 1 a empty names (set values 0 empty) (omega arith) (unused-value 0 empty names values (zeros .unused)));
-        }
+abbrev noTags : Counts
+noTags = record { ends = 0; starts = 0 }
 
-    -- the relations before and after the tag
+module _ (names values : List ℕ) (zeros : Holds (summaryOf noTags names values)) (empty : Piece) (first : List ℕ)
+    (first-is : first ≡ putPiece values 0 empty) where
+  holds-first : Holds (summaryOf noTags names first)
+  holds-first = holds-value noTags empty names values first first-is zeros
 
-    value-before : getD (set values 0 empty) 0 0 ≡ empty
-    value-before = getD-set-same values 0 empty 0 (omega (arith, zeros .values-long))
+  first-piece : pieceAt first 0 ≡ empty
+  first-piece = rw first-is (piece-same values 0 empty (zeros .values-long) (omega arith))
 
-    value-after : getD (set (set values 0 empty) 1 empty) 1 0 ≡ empty
-    value-after = getD-set-same (set values 0 empty) 1 empty 0 (omega (arith, length-set values 0 empty, zeros .values-long))
+  pub loads-absent : (s : Slot) (t : List ℕ) (k : ℕ) (c : Counts) → s ≡ Absent → c ≡ noTags
+      → Loads (FormOf empty t s k) (Form c) names first
+  loads-absent s t k c e d = rw (e, d) (holds-first, (stack-none 0 names first, first-piece))
 
-    pub loads-end : (closes : Bool) → closes ≡ true
-        → Loads (TagForm empty closes a) (Form 1 0) (set names 0 a) (set (set values 0 empty) 1 empty)
-    loads-end closes e =
-        let form =
-        stack-put-end 0 0 1 a empty names (set values 0 empty) (omega arith) (omega arith) (omega (arith, zeros .names-long)) in (
-          holds-tag 1 0 (omega arith),
-          (rw (e, form, value-before, stack-none 0 names (set values 0 empty)), value-after),
+  module _ (a : ℕ) (closes : Bool) (c : Counts) (both : List ℕ) (both-is : both ≡ putPiece first 1 empty) where
+    second-piece : pieceAt both 1 ≡ empty
+    second-piece = rw both-is (piece-same first 1 empty (holds-first .values-long) (omega arith))
+
+    holds-tag : 1 ≡ c .ends + c .starts → Holds (summaryOf c (set names 0 a) both)
+    holds-tag one = rw both-is (holds-put (summaryOf noTags names first) c 1 a empty one (omega arith) (omega arith) holds-first)
+
+    pub loads-end : closes ≡ true → c ≡ record { ends = 1; starts = 0 } → Loads (TagForm empty closes a) (Form c) (set names 0 a) both
+    loads-end e d =
+        let form = stack-put-end 0 0 1 a empty names first (omega arith) (omega arith) (omega (arith, zeros .names-long)) in (
+          holds-tag (rw d (omega arith)),
+          (rw (d, e, both-is, form, first-piece, stack-none 0 names first), rw d second-piece),
         )
 
-    pub loads-start : (closes : Bool) → closes ≡ false
-        → Loads (TagForm empty closes a) (Form 0 1) (set names 0 a) (set (set values 0 empty) 1 empty)
-    loads-start closes e =
-        let form =
-        stack-put-start 0 0 1 a empty names (set values 0 empty) (omega arith) (omega arith) (omega (arith, zeros .names-long)) in (
-          holds-tag 0 1 (omega arith),
-          (rw (e, form, value-before, stack-none 0 names (set values 0 empty)), value-after),
+    pub loads-start : closes ≡ false → c ≡ record { ends = 0; starts = 1 } → Loads (TagForm empty closes a) (Form c) (set names 0 a) both
+    loads-start e d =
+        let form = stack-put-start 0 0 1 a empty names first (omega arith) (omega arith) (omega (arith, zeros .names-long)) in (
+          holds-tag (rw d (omega arith)),
+          (rw (d, e, both-is, form, first-piece, stack-none 0 names first), rw d second-piece),
         )
 
-  pub loads-absent : (s : Slot) (t : List ℕ) (k : ℕ) → s ≡ Absent
-      → Loads (FormOf empty t s k) (Form 0 0) names (set values 0 empty)
-  loads-absent s t k e =
-      rw e (
-        holds-value 0 0 empty names values (set values 0 empty) refl zeros,
-        (stack-none 0 names (set values 0 empty), getD-set-same values 0 empty 0 (omega (arith, zeros .values-long))),
-      )
-
-module _ (empty : ℕ) (t : List ℕ) (s : Slot) (k : ℕ) (names values : List ℕ) (r : Loaded) where
+module _ (empty : Piece) (t : List ℕ) (s : Slot) (k : ℕ) (names values : List ℕ) (r : Loaded) where
   pub loads-single : (closes : Bool) (a : ℕ) → s ≡ Single closes a → Loads (TagForm empty closes a) r names values
       → Loads (FormOf empty t s k) r names values
   loads-single closes a e w = rw e w
 
-  pub loads-rows : (x : ℕ) → s ≡ Rows x → Loads (RowOf (rowAt t k) x) r names values → Loads (FormOf empty t s k) r names values
+  pub loads-rows : (x : ℕ) → s ≡ Rows x → Loads (RowOf (tableRow t k) x) r names values → Loads (FormOf empty t s k) r names values
   loads-rows x e w = rw e w
 
-module _ (t : List ℕ) (k x : ℕ) (fits : Bool) (told : fits ≡ eqb (nonterminalIn (rowAt t k)) x) (packs : SomePairRow (rowAt t k)) where
-  pub loads-row : (e s : ℕ) (names values : List ℕ) → fits ≡ true
-      → e ≡ endsIn (take (k * 20 + 20 - k * 20) (drop (k * 20) t))
-      → s ≡ startsIn (take (k * 20 + 20 - k * 20) (drop (k * 20) t))
-      → names ≡ namesIn (take (k * 20 + 20 - k * 20) (drop (k * 20) t)) 0 16
-      → values ≡ drop 3 (take (k * 20 + 20 - k * 20) (drop (k * 20) t))
-      → Loads (RowOf (rowAt t k) x) (Form e s) names values
-  loads-row e s names values f e-is s-is names-is values-is =
+module _ (t : List ℕ) (k x : ℕ) (fits : Bool) (told : fits ≡ eqb (nonterminalIn (tableRow t k)) x) (packs : SomePairRow (tableRow t k)) where
+  pub loads-row : (c : Counts) (names values : List ℕ) → fits ≡ true
+      → summaryOf c names values ≡ summaryIn (take (k * rowWidth + rowWidth - k * rowWidth) (drop (k * rowWidth) t))
+      → Loads (RowOf (tableRow t k) x) (Form c) names values
+  loads-row c names values f is =
       let (p, r) = packs in
-      let row = rowAt t k in
-      let is : p .of ≡ x =
+      let row = tableRow t k in
+      let of : p .of ≡ x =
       sym (row-nonterminal row (p .of) (p .form) (p .last) r) ∙ eqb-true (nonterminalIn row) x (sym told ∙ f) in
-      rw (e-is, s-is, names-is, values-is, row-part (k * 20) t) (
+      subst (λ (s : Summary). Holds s × RowOf row x (formOf s) (lastOf s))
+      (sym (is ∙ ap (λ (l : List ℕ). summaryIn l) (row-part rowWidth (k * rowWidth) t))) (
         row-holds row (p .of) (p .form) (p .last) r,
-        rw (row-form row (p .of) (p .form) (p .last) r, row-last row (p .of) (p .form) (p .last) r, ← is) r,
+        rw (row-form row (p .of) (p .form) (p .last) r, row-last row (p .of) (p .form) (p .last) r, ← of) r,
       )
 
-  pub loads-nothing : (names values : List ℕ) → fits ≡ false → Loads (RowOf (rowAt t k) x) Nothing names values
+  pub loads-nothing : (names values : List ℕ) → fits ≡ false → Loads (RowOf (tableRow t k) x) Nothing names values
   loads-nothing names values f form last r =
-      false≢true (sym f ∙ told ∙ eq-eqb (nonterminalIn (rowAt t k)) x (row-nonterminal (rowAt t k) x form last r))
+      false≢true (sym f ∙ told ∙ eq-eqb (nonterminalIn (tableRow t k)) x (row-nonterminal (tableRow t k) x form last r))
 
 pub ruleset loads = (
   slot-start,

@@ -1,28 +1,30 @@
 -- One pair of choices (specs/Turns.antt), in the words in which `noted_deep` and `one_turn` have it, for `search one-turn-laws`: arrays of
--- zeros hold the empty form, what is loaded stands in the arrays, and joining on the arrays says what the join is under the limit (stack's
+-- zeros hold the empty form, what is loaded stands in the arrays, and joining on the arrays says what the join is under the limit (form's
 -- FormLaws, words' LimitLaws). Assumes nothing.
 use mathlib.Core.Path.{_≡_, sym, _∙_}
 use mathlib.Core.Bool.{Bool, true, _||_}
 use mathlib.Core.List.{List}
-use Prim.Native.Nat.{ℕ, _+_, _≤_}
+use Prim.Native.Nat.{ℕ, _≤_}
 use native.Mathlib.Omega.{arith}
-use lib.ListN.{getD, replicate}
-use mir.Syntax.{w64}
-use mir.Val.{Fits}
+use lib.ListN.{length-replicate, replicate}
 use borrow.Author.Needs.{needs}
+use Rattle.numbers.specs.Bits.{bit}
 use Rattle.words.specs.Reader.{Outcome, reduced, join}
 use Rattle.words.proofs.LimitLaws.{Answers, limit-iff}
-use Rattle.numbers.specs.Bits.{bit}
-use Rattle.hedge.specs.Operations.{relations}
-use Rattle.form.specs.Held.{stackOf, Holds}
+use Rattle.pieces.specs.declared.Piece.{Piece}
+use Rattle.pieces.specs.Pieces.{mostTags, piecesLong, zeroPiece, pieces}
+use Rattle.pieces.proofs.PieceLaws.{no-pieces}
+use Rattle.form.specs.Held.{tagCount, summaryOf, formOf, lastOf, Holds}
 use Rattle.form.specs.Steps.{outcome, Stepped, after-form}
+use Rattle.form.specs.declared.Counts.{Counts}
 use Rattle.form.specs.declared.Step.{Step}
 use Rattle.form.specs.declared.Step.the-variants as steps
-use Rattle.form.proofs.TagLaws.{holds-none}
+use Rattle.form.proofs.HeldLaws.{unused-none}
 use Rattle.form.proofs.FormLaws.{form-limit}
-use Rattle.pairs.specs.Turns.{FormOf, Loads, FormsNoted, OutcomeNoted, Turned, mismatches, is-deep, is-form, no-forms, joined}
+use Rattle.pairs.specs.Turns.{FormOf, Loads, afterDeep, FormsNoted, OutcomeNoted, mismatches, is-deep, is-form}
+use Rattle.pairs.specs.Turns.{Turned, no-forms, joined}
 use Rattle.pairs.specs.declared.Slot.{Slot}
-use Rattle.pairs.specs.declared.Notes.{Notes}
+use Rattle.pairs.specs.declared.Selection.{Selection}
 use Rattle.pairs.specs.declared.Loaded.{Loaded}
 use Rattle.pairs.specs.declared.Loaded.the-variants.{Form, Nothing}
 use Rattle.pairs.specs.declared.Tally.{Tally}
@@ -31,85 +33,87 @@ use Rattle.pairs.specs.declared.Turn.the-variants.{Kept, Mismatch}
 
 -- ---- arrays of zeros
 
-pub zeros-hold : Holds 0 0 (replicate 16 0) (replicate 17 0)
-zeros-hold = holds-none 0
+pub zeros-hold : Holds (summaryOf (record { ends = 0; starts = 0 }) (replicate mostTags 0) (replicate piecesLong 0))
+zeros-hold =
+    record {
+      names-long = length-replicate {A = ℕ} mostTags 0;
+      values-long = length-replicate {A = ℕ} piecesLong 0;
+      room = omega arith;
+      unused = record {
+        names-zero = unused-none mostTags piecesLong zeroPiece .names-zero;
+        values-zero = λ k l. no-pieces piecesLong k;
+      };
+    }
 
 -- ---- what is loaded
 
-module _ (empty : ℕ) (t : List ℕ) (slot : Slot) (k : ℕ) (r : Loaded) (names values : List ℕ)
-    (loads : Loads (FormOf empty t slot k) r names values) where
-  pub loaded-holds : (e s : ℕ) → r ≡ Form e s → Holds e s names values
-  loaded-holds e s p = (rw p at loads) .0
+module _ (empty : Piece) (t : List ℕ) (slot : Slot) (k : ℕ) (r : Loaded) (names values : List ℕ)
+    (loads : Loads (FormOf empty t slot k) r names values) (c : Counts) (is : r ≡ Form c) where
+  pub loaded-holds : Holds (summaryOf c names values)
+  loaded-holds = (rw is at loads) .0
 
-  pub loaded-room : (e s : ℕ) → r ≡ Form e s → e + s ≤ 16
-  loaded-room e s p = loaded-holds e s p .room
+  pub loaded-room : tagCount c ≤ mostTags
+  loaded-room = loaded-holds .room
 
-  pub loaded-fits : (e s : ℕ) → r ≡ Form e s → Fits w64 (e + s)
-  loaded-fits e s p = record { fits = omega (arith, loaded-room e s p) }
-
-  pub loaded-form : (e s : ℕ) → r ≡ Form e s → FormOf empty t slot k (stackOf e names values (e + s)) (getD values (e + s) 0)
-  loaded-form e s p = (rw p at loads) .1
+  pub loaded-form : FormOf empty t slot k (formOf (summaryOf c names values)) (lastOf (summaryOf c names values))
+  loaded-form = (rw is at loads) .1
 
 -- ---- the turn
 
-pub deep-invalid : (noted b : Bool) (marks : ℕ) → b ≡ bit marks 0 → (noted || b) ≡ (noted || bit marks 0)
-deep-invalid noted b marks e = rw e
+-- the notes after more than 16 tags
+pub tally-deep : (found r : Tally) (b : Bool) (marks : ℕ) → b ≡ bit marks 0
+    → r ≡ record { rows = found .rows; notes = record { invalid = found .notes .invalid || b; deep = true; crowded = found .notes .crowded } }
+    → r ≡ record { rows = found .rows; notes = afterDeep marks (found .notes) }
+tally-deep found r b marks e is = rw e at is
 
-pub turn-no-left : (states : ℕ) (schema endings : List ℕ) (empty : ℕ) (t : List ℕ) (left : Slot) (j : ℕ) (right : Slot) (k marks m : ℕ)
-    (notes : Notes) (a : Loaded) (names values : List ℕ) → Loads (FormOf empty t left j) a names values → a ≡ Nothing
-    → Turned states schema endings empty t left j right k marks m notes (Kept m notes) t
-turn-no-left states schema endings empty t left j right k marks m notes a names values loads p =
-    no-forms (λ s c u d f g. (rw p at loads) s c f)
+module _ (lore t : List ℕ) (pair : Selection) (marks : ℕ) (found : Tally) (empty : Piece) (empty-is : empty ≡ pieces lore .unit) where
+  pub turn-no-left : (a : Loaded) (names values : List ℕ) → Loads (FormOf empty t (pair .left) (pair .j)) a names values → a ≡ Nothing
+      → Turned lore t pair marks found (Kept found) t
+  turn-no-left a names values loads p = no-forms (λ s c u d f g. (rw (p, empty-is) at loads) s c f)
 
-module _ (states : ℕ) (schema endings : List ℕ) (empty : ℕ) (t : List ℕ) (left : Slot) (j : ℕ) (right : Slot) (k marks m : ℕ) (notes : Notes)
-    (b : Loaded) (tags relations′ : List ℕ) (right-loads : Loads (FormOf empty t right k) b tags relations′) where
-  pub turn-no-right : b ≡ Nothing → Turned states schema endings empty t left j right k marks m notes (Kept m notes) t
-  turn-no-right p = no-forms (λ s c u d f g. (rw p at right-loads) u d g)
+  module _ (b : Loaded) (tags parts : List ℕ) (right-loads : Loads (FormOf empty t (pair .right) (pair .k)) b tags parts) where
+    pub turn-no-right : b ≡ Nothing → Turned lore t pair marks found (Kept found) t
+    turn-no-right p = no-forms (λ s c u d f g. (rw (p, empty-is) at right-loads) u d g)
 
-  module _ (a : Loaded) (names values : List ℕ) (left-loads : Loads (FormOf empty t left j) a names values) where
-    module _ (e s d u : ℕ) (left-is : a ≡ Form e s) (right-is : b ≡ Form d u) (step : Step) (names′ values′ : List ℕ)
-        (told : Stepped step names′ values′ (after-form states schema endings e s names values d tags relations′ (d + u))) where
+    module _ (a : Loaded) (names values : List ℕ) (left-loads : Loads (FormOf empty t (pair .left) (pair .j)) a names values)
+        (c more : Counts) (left-is : a ≡ Form c) (right-is : b ≡ Form more) (step : Step) (names′ values′ : List ℕ)
+        (told : Stepped step names′ values′ (after-form lore (summaryOf c names values) (summaryOf more tags parts))) where
       -- the join of the two forms
-      abbrev pub joinedForms : Outcome ℕ
+      abbrev pub joinedForms : Outcome Piece
       joinedForms =
-          join (relations 8 states schema endings) (reduced (stackOf e names values (e + s)) (getD values (e + s) 0))
-          (stackOf d tags relations′ (d + u)) (getD relations′ (d + u) 0)
+          join (pieces lore) (reduced (formOf (summaryOf c names values)) (lastOf (summaryOf c names values)))
+          (formOf (summaryOf more tags parts)) (lastOf (summaryOf more tags parts))
 
-      answers : Answers 16 joinedForms (outcome step names′ values′)
+      answers : Answers mostTags joinedForms (outcome step names′ values′)
       answers =
-          limit-iff (relations 8 states schema endings) 16 joinedForms (outcome step names′ values′) .0
-          (sym (form-limit states schema endings e s names values d tags relations′ (d + u)
-          (loaded-room empty t left j a names values left-loads e s left-is)) ∙ sym (told .says))
+          limit-iff (pieces lore) mostTags joinedForms (outcome step names′ values′) .0
+          (sym (form-limit lore (summaryOf c names values) (summaryOf more tags parts)
+          (loaded-room empty t (pair .left) (pair .j) a names values left-loads c left-is)) ∙ sym (told .says))
 
-      turn-joined : (r : Turn) (t′ : List ℕ) → OutcomeNoted endings marks joinedForms t m notes r t′
-          → Turned states schema endings empty t left j right k marks m notes r t′
+      turn-joined : (r : Turn) (t′ : List ℕ) → OutcomeNoted lore marks joinedForms t found r t′ → Turned lore t pair marks found r t′
       turn-joined r t′ w =
-          joined (stackOf e names values (e + s)) (getD values (e + s) 0) (stackOf d tags relations′ (d + u)) (getD relations′ (d + u) 0)
-          r t′ (loaded-form empty t left j a names values left-loads e s left-is)
-          (loaded-form empty t right k b tags relations′ right-loads d u right-is) w
+          joined (formOf (summaryOf c names values)) (lastOf (summaryOf c names values)) (formOf (summaryOf more tags parts))
+          (lastOf (summaryOf more tags parts)) r t′
+          (rw empty-is at (loaded-form empty t (pair .left) (pair .j) a names values left-loads c left-is))
+          (rw empty-is at (loaded-form empty t (pair .right) (pair .k) b tags parts right-loads more right-is)) w
 
-      pub turn-form : (e′ s′ : ℕ) (r : Tally) (t′ : List ℕ) → step ≡ steps.Kept e′ s′
-          → FormsNoted endings marks (stackOf e′ names′ values′ (e′ + s′)) (getD values′ (e′ + s′) 0) t m notes 64 r t′
-          → Turned states schema endings empty t left j right k marks m notes (Kept (r .rows) (r .notes)) t′
+      pub turn-form : (d : Counts) (r : Tally) (t′ : List ℕ) → step ≡ steps.Kept d
+          → FormsNoted lore marks (formOf (summaryOf d names′ values′)) (lastOf (summaryOf d names′ values′)) t found 64 r t′
+          → Turned lore t pair marks found (Kept r) t′
       unfolding outcome
-      turn-form e′ s′ r t′ p w =
+      turn-form d r t′ p w =
           let (q, l) = rw p at answers in
-          turn-joined (Kept (r .rows) (r .notes)) t′ (is-form (stackOf e′ names′ values′ (e′ + s′)) (getD values′ (e′ + s′) 0) r t′ q l w)
+          turn-joined (Kept r) t′ (is-form (formOf (summaryOf d names′ values′)) (lastOf (summaryOf d names′ values′)) r t′ q l w)
 
-      pub turn-mismatch : (f g : ℕ) → step ≡ steps.Mismatch f g
-          → Turned states schema endings empty t left j right k marks m notes Mismatch t
+      pub turn-mismatch : (f g : ℕ) → step ≡ steps.Mismatch f g → Turned lore t pair marks found Mismatch t
       unfolding outcome
       turn-mismatch f g p = turn-joined Mismatch t (mismatches f g (rw p at answers))
 
-      pub turn-deep : (r : Notes) → step ≡ steps.TooDeep
-          → (r .invalid ≡ (notes .invalid || bit marks 0)) × (r .deep ≡ true) × (r .crowded ≡ notes .crowded)
-          → Turned states schema endings empty t left j right k marks m notes (Kept m r) t
+      pub turn-deep : (r : Tally) → step ≡ steps.TooDeep → r ≡ record { rows = found .rows; notes = afterDeep marks (found .notes) }
+          → Turned lore t pair marks found (Kept r) t
       unfolding outcome
-      turn-deep r p (invalid-is, deep-is, crowded-is) =
+      turn-deep r p is =
           let (v, h, q, l) = rw p at answers in
-          let noted : record { invalid = notes .invalid || bit marks 0; deep = true; crowded = notes .crowded } ≡ r =
-          λ i. record { invalid = sym invalid-is i; deep = sym deep-is i; crowded = sym crowded-is i } in
-          rw (← noted)
-          (turn-joined (Kept m (record { invalid = notes .invalid || bit marks 0; deep = true; crowded = notes .crowded })) t (is-deep v h q l))
+          rw is (turn-joined (Kept (record { rows = found .rows; notes = afterDeep marks (found .notes) })) t (is-deep v h q l))
 
-pub ruleset one-turn-laws = (zeros-hold, loaded-fits, deep-invalid, turn-no-right, needs)
+pub ruleset one-turn-laws = (zeros-hold, tally-deep, turn-no-right, needs)

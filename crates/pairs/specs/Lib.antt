@@ -1,2 +1,3 @@
+pub mod Books
 pub mod Slots
 pub mod Turns

@@ -1,25 +1,35 @@
-// One pair of choices under rules with the same right side: its two slots loaded from the rows of a table, joined, and the form noted for the
-// left side of each rule. What is new goes behind the m rows that are there.
+// One pair of choices under rules with the same right side: its two slots loaded from the rows of a table, joined, and the form noted for
+// the left side of each rule. What is new goes behind the rows that are there.
 ghost use mathlib.Core.Path.{_≡_};
-ghost use mathlib.Core.Bool.{true, _||_};
-ghost use Prim.Native.Nat.{ℕ, _+_, _*_, _≤_};
+ghost use mathlib.Core.Bool.{true};
+ghost use Prim.Native.Nat.{_+_, _*_, _≤_};
 ghost use lib.Dec.{eqb};
-ghost use lib.ListN.{length, getD};
+ghost use lib.ListN.{length};
 ghost use Rattle.words.specs.Reduced.{Stack, tags};
-ghost use Rattle.numbers.specs.Bits.{bit};
-ghost use Rattle.hedge.specs.Schema.{EndsBelow};
-ghost use Rattle.form.specs.Held.{stackOf, Holds};
-ghost use Rattle.form.specs.Steps.{Schooled};
-ghost use Rattle.worktable.specs.Packed.{nonterminalIn, RowOf};
-ghost use Rattle.pairs.specs.Slots.{slotOf, rowAt};
-ghost use Rattle.pairs.specs.Turns.{SomePairRow, Choosable, TagForm, FormOf, Loads};
-ghost use Rattle.pairs.specs.Turns.{isPage, invalidForm, FormNoted, FormsNoted, Turned};
+ghost use Rattle.hedge.specs.Schema.{mostStates};
+ghost use Rattle.lore.specs.Lore.{IsLore};
+ghost use Rattle.pieces.specs.declared.Piece.{Piece};
+ghost use Rattle.pieces.specs.Pieces.{mostTags, pieceAt, pieces};
+ghost use Rattle.form.specs.Held.{tagCount, summaryOf, formOf, lastOf, Holds};
+ghost use Rattle.worktable.specs.Packed.{rowWidth, mostImages, tableLong, nonterminalIn, RowOf};
+ghost use Rattle.pairs.specs.Books.{tableRow};
+ghost use Rattle.pairs.specs.Slots.{slotOf};
+ghost use Rattle.pairs.specs.Turns.{SomePairRow, Choosable, TagForm, FormOf, Loads, isPage, invalidForm, afterDeep};
+ghost use Rattle.pairs.specs.Turns.{PairNoted, FormsNoted, Turned};
 
 // What stands at a place of a rule's right side: nothing, a tag, or the rows of a nonterminal.
 pub enum Slot {
     Absent,
     Single(bool, u8),
     Rows(u8),
+}
+
+// Choice j of the left slot with choice k of the right one.
+pub struct Selection {
+    pub left: Slot,
+    pub j: usize,
+    pub right: Slot,
+    pub k: usize,
 }
 
 // What a walk noted: an invalid page, a string of more than 16 tags, more than 256 images.
@@ -29,21 +39,21 @@ pub struct Notes {
     pub crowded: bool,
 }
 
-// A choice's form in the arrays, with so many ends and starts; or the row is another nonterminal's.
-pub enum Loaded {
-    Form(usize, usize),
-    Nothing,
-}
-
 // So many rows, and these notes.
 pub struct Tally {
     pub rows: usize,
     pub notes: Notes,
 }
 
-// One pair of choices: so many rows, and these notes; or a mismatch.
+// A choice's form in the arrays, with so many ends and starts; or the row is another nonterminal's.
+pub enum Loaded {
+    Form(form::Counts),
+    Nothing,
+}
+
+// One pair of choices: the tally after it, or a mismatch.
 pub enum Turn {
-    Kept(usize, Notes),
+    Kept(Tally),
     Mismatch,
 }
 
@@ -65,249 +75,257 @@ pub fn slot_of(used: bool, byte: u8) -> Slot
 
 // Is row k one of the nonterminal x?
 pub fn row_fits(table: &[u64], k: usize, x: u8) -> bool
-    requires { ⌜ k * 20 + 20 ≤ length (now table) ⌝ }
-    ensures { λ r. ⌜ r ≡ eqb (nonterminalIn (rowAt (now (table .entry)) k)) x ⌝ }
+    requires { ⌜ k * rowWidth + rowWidth ≤ length (now table) ⌝ }
+    ensures { λ r. ⌜ r ≡ eqb (nonterminalIn (tableRow (now (table .entry)) k)) x ⌝ }
 {
-    let at = k * 20;
-    let e = at + 20;
+    let at = k * worktable::ROW;
+    let e = at + worktable::ROW;
     worktable::nonterminal(&table[at..e]) == x
 }
 
 // Puts a tag's own form into two arrays of zeros.
-fn load_tag(closes: bool, a: u8, empty: u64, names: &mut [u8; 16], values: &mut [u64; 17]) -> Loaded
-    requires { ⌜ Holds 0 0 (now names) (now values) ⌝ }
+fn load_tag(
+    empty: pieces::Piece,
+    closes: bool,
+    a: u8,
+    names: &mut [u8; pieces::TAGS],
+    values: &mut [u64; pieces::PIECES],
+) -> Loaded
+    requires { ⌜ Holds (summaryOf (record { ends = 0; starts = 0 }) (now names) (now values)) ⌝ }
     ensures { λ r. ⌜ Loads (TagForm empty closes a) r (now (names .exit)) (now (values .exit)) ⌝ }
 {
     names[0] = a;
-    values[0] = empty;
-    values[1] = empty;
+    pieces::put_piece(values, 0, empty);
+    pieces::put_piece(values, 1, empty);
     if closes {
-        return Loaded::Form(1, 0);
+        return Loaded::Form(form::counted(1, 0));
     }
-    Loaded::Form(0, 1)
+    Loaded::Form(form::counted(0, 1))
 }
 
 // Puts the form of row k into two arrays, where it is one of the nonterminal x.
-fn load_row(table: &[u64], k: usize, x: u8, names: &mut [u8; 16], values: &mut [u64; 17]) -> Loaded
-    requires { ⌜ k * 20 + 20 ≤ length (now table) ⌝ }
-    requires { ⌜ SomePairRow (rowAt (now table) k) ⌝ }
-    ensures { λ r. ⌜ Loads (RowOf (rowAt (now (table .entry)) k) x) r (now (names .exit)) (now (values .exit)) ⌝ }
+fn load_row(
+    table: &[u64],
+    k: usize,
+    x: u8,
+    names: &mut [u8; pieces::TAGS],
+    values: &mut [u64; pieces::PIECES],
+) -> Loaded
+    requires { ⌜ k * rowWidth + rowWidth ≤ length (now table) ⌝ }
+    requires { ⌜ SomePairRow (tableRow (now table) k) ⌝ }
+    ensures { λ r. ⌜ Loads (RowOf (tableRow (now (table .entry)) k) x) r (now (names .exit)) (now (values .exit)) ⌝ }
 {
     if row_fits(table, k, x) {
-        let at = k * 20;
-        let e = at + 20;
+        let at = k * worktable::ROW;
+        let e = at + worktable::ROW;
         let c = worktable::unpack(&table[at..e], names, values);
-        return Loaded::Form(c.ends, c.starts);
+        return Loaded::Form(c);
     }
     Loaded::Nothing
 }
 
 // Puts choice k of a slot into two arrays of zeros.
 fn load(
+    empty: pieces::Piece,
     s: Slot,
     k: usize,
     table: &[u64],
-    empty: u64,
-    names: &mut [u8; 16],
-    values: &mut [u64; 17],
+    names: &mut [u8; pieces::TAGS],
+    values: &mut [u64; pieces::PIECES],
 ) -> Loaded
     requires { ⌜ Choosable (now table) s k ⌝ }
-    requires { ⌜ Holds 0 0 (now names) (now values) ⌝ }
+    requires { ⌜ Holds (summaryOf (record { ends = 0; starts = 0 }) (now names) (now values)) ⌝ }
     ensures { λ r. ⌜ Loads (FormOf empty (now (table .entry)) s k) r (now (names .exit)) (now (values .exit)) ⌝ }
 {
     match s {
         Slot::Absent => {
-            values[0] = empty;
-            Loaded::Form(0, 0)
+            pieces::put_piece(values, 0, empty);
+            Loaded::Form(form::counted(0, 0))
         }
-        Slot::Single(closes, a) => load_tag(closes, a, empty, names, values),
+        Slot::Single(closes, a) => load_tag(empty, closes, a, names, values),
         Slot::Rows(x) => load_row(table, k, x, names, values),
     }
 }
 
-// Is the form a page's: no tags, and a relation that state 0 accepts?
-fn is_page(endings: &[u8], ends: usize, starts: usize, value: u64) -> bool
-    requires { ⌜ EndsBelow 8 (now endings) ⌝ }
-    requires { ⌜ ends + starts ≤ 16 ⌝ }
-    ensures { λ r. ⌜ ((form : Stack ℕ) → tags form ≡ ends + starts → r ≡ isPage (now (endings .entry)) form value) ⌝ }
+// Is the ending a page's?
+fn is_page(e: form::Ending) -> bool
+    ensures { λ r. ⌜ r ≡ isPage e ⌝ }
 {
-    if 0 < ends + starts {
-        return false;
+    match e {
+        form::Ending::Page => true,
+        form::Ending::Unmatched => false,
+        form::Ending::NotDerived => false,
     }
-    hedge::accepts(endings, value)
 }
 
 // Is the form one of the start that is no page's?
-fn invalid_form(endings: &[u8], x: u8, ends: usize, starts: usize, value: u64) -> bool
-    requires { ⌜ EndsBelow 8 (now endings) ⌝ }
-    requires { ⌜ ends + starts ≤ 16 ⌝ }
-    ensures { λ r. ⌜ ((form : Stack ℕ) → tags form ≡ ends + starts → r ≡ invalidForm (now (endings .entry)) x form value) ⌝ }
+fn invalid_form(
+    lore: &[u64; lore::LORE],
+    x: u8,
+    c: form::Counts,
+    values: &[u64; pieces::PIECES],
+) -> bool
+    requires { ⌜ tagCount c ≤ mostTags ⌝ }
+    ensures { λ r. ⌜ ((s : Stack Piece) → tags s ≡ tagCount c
+        → r ≡ invalidForm (now (lore .entry)) (record { of = x; form = s; last = pieceAt (now (values .entry)) (tagCount c) })) ⌝ }
 {
     if x == 0 {
-        return !is_page(endings, ends, starts, value);
+        let last = pieces::piece_at(values, c.ends + c.starts);
+        let e = form::ending_of(lore, c, last);
+        return !is_page(e);
     }
     false
 }
 
 // The names as an array of one's own, of which its type says that each is a byte.
-fn own(names: &[u8; 16]) -> [u8; 16]
+fn own(names: &[u8; pieces::TAGS]) -> [u8; pieces::TAGS]
     ensures { λ r. ⌜ r ≡ now (names .entry) ⌝ }
 {
     *names
 }
 
+// The row of a form of x.
+fn row_of(
+    x: u8,
+    c: form::Counts,
+    names: &[u8; pieces::TAGS],
+    values: &[u64; pieces::PIECES],
+) -> [u64; worktable::ROW]
+    requires { ⌜ Holds (summaryOf c (now names) (now values)) ⌝ }
+    ensures { λ r. ⌜ RowOf r x (formOf (summaryOf c (now (names .entry)) (now (values .entry))))
+        (lastOf (summaryOf c (now (names .entry)) (now (values .entry)))) ⌝ }
+{
+    let bytes = own(names);
+    worktable::pack(x, c, &bytes, values)
+}
+
 // The tally of m rows, where an invalid page was noted or not, and crowding too.
-fn tallied(m: usize, notes: Notes, invalid: bool, crowded: bool) -> Tally
-    ensures { λ r. ⌜ (r .rows ≡ m) × (r .notes .invalid ≡ invalid) × (r .notes .deep ≡ notes .deep) × (r .notes .crowded ≡ crowded) ⌝ }
+fn tallied(m: usize, deep: bool, invalid: bool, crowded: bool) -> Tally
+    ensures { λ r. ⌜ r ≡ record { rows = m; notes = record { invalid = invalid; deep = deep; crowded = crowded } } ⌝ }
 {
     Tally {
         rows: m,
         notes: Notes {
             invalid: invalid,
-            deep: notes.deep,
+            deep: deep,
             crowded: crowded,
         },
     }
 }
 
-// A form of x: its row goes behind the m others, unless it stands among them or there is no room.
+// A form of x: its row goes behind the others, unless it stands among them or there is no room.
 fn note_form(
-    endings: &[u8],
+    lore: &[u64; lore::LORE],
     x: u8,
-    ends: usize,
-    starts: usize,
-    names: &[u8; 16],
-    values: &[u64; 17],
+    c: form::Counts,
+    names: &[u8; pieces::TAGS],
+    values: &[u64; pieces::PIECES],
     table: &mut [u64],
-    m: usize,
-    notes: Notes,
+    found: Tally,
 ) -> Tally
-    requires { ⌜ EndsBelow 8 (now endings) ⌝ }
-    requires { ⌜ Holds ends starts (now names) (now values) ⌝ }
-    requires { ⌜ 5120 ≤ length (now table) ⌝ }
-    requires { ⌜ m ≤ 256 ⌝ }
-    ensures { λ r. ⌜ FormNoted (now (endings .entry)) x (stackOf ends (now (names .entry)) (now (values .entry)) (ends + starts))
-        (getD (now (values .entry)) (ends + starts) 0) (now (table .entry)) m notes r (now (table .exit)) ⌝ }
+    requires { ⌜ Holds (summaryOf c (now names) (now values)) ⌝ }
+    requires { ⌜ tableLong ≤ length (now table) ⌝ }
+    requires { ⌜ found .rows ≤ mostImages ⌝ }
+    ensures { λ r. ⌜ PairNoted (now (lore .entry)) (record {
+      of = x;
+      form = formOf (summaryOf c (now (names .entry)) (now (values .entry)));
+      last = lastOf (summaryOf c (now (names .entry)) (now (values .entry)));
+    }) (now (table .entry)) found r (now (table .exit)) ⌝ }
 {
-    let invalid = notes.invalid | invalid_form(endings, x, ends, starts, values[ends + starts]);
+    let m = found.rows;
+    let notes = found.notes;
+    let invalid = notes.invalid | invalid_form(lore, x, c, values);
     if notes.crowded {
-        return tallied(m, notes, invalid, true);
+        return tallied(m, notes.deep, invalid, true);
     }
-    let bytes = own(names);
-    let row = worktable::pack(x, ends, starts, &bytes, values);
-    if worktable::holds(table, m, &row) {
-        return tallied(m, notes, invalid, notes.crowded);
+    let row = row_of(x, c, names, values);
+    if rows::holds(table, m, &row) {
+        return tallied(m, notes.deep, invalid, notes.crowded);
     }
-    if 256 <= m {
-        return tallied(m, notes, invalid, true);
+    if worktable::IMAGES <= m {
+        return tallied(m, notes.deep, invalid, true);
     }
-    worktable::add(table, m, &row);
-    tallied(m + 1, notes, invalid, notes.crowded)
+    rows::add(table, m, &row);
+    tallied(m + 1, notes.deep, invalid, notes.crowded)
 }
 
 // A form of each marked nonterminal, in turn.
 fn note_forms(
-    endings: &[u8],
+    lore: &[u64; lore::LORE],
     marks: u64,
-    ends: usize,
-    starts: usize,
-    names: &[u8; 16],
-    values: &[u64; 17],
+    c: form::Counts,
+    names: &[u8; pieces::TAGS],
+    values: &[u64; pieces::PIECES],
     table: &mut [u64],
-    m: usize,
-    notes: Notes,
+    found: Tally,
 ) -> Tally
-    requires { ⌜ EndsBelow 8 (now endings) ⌝ }
-    requires { ⌜ Holds ends starts (now names) (now values) ⌝ }
-    requires { ⌜ 5120 ≤ length (now table) ⌝ }
-    requires { ⌜ m ≤ 256 ⌝ }
-    ensures { λ r. ⌜ FormsNoted (now (endings .entry)) marks (stackOf ends (now (names .entry)) (now (values .entry)) (ends + starts))
-        (getD (now (values .entry)) (ends + starts) 0) (now (table .entry)) m notes 64 r (now (table .exit)) ⌝ }
+    requires { ⌜ Holds (summaryOf c (now names) (now values)) ⌝ }
+    requires { ⌜ tableLong ≤ length (now table) ⌝ }
+    requires { ⌜ found .rows ≤ mostImages ⌝ }
+    ensures { λ r. ⌜ FormsNoted (now (lore .entry)) marks (formOf (summaryOf c (now (names .entry)) (now (values .entry))))
+        (lastOf (summaryOf c (now (names .entry)) (now (values .entry)))) (now (table .entry)) found 64 r (now (table .exit)) ⌝ }
 {
-    let mut found = Tally {
-        rows: m,
-        notes: notes,
-    };
+    let mut tally = found;
     let mut x = 0u8;
     while x < 64 {
         if useful::marked(marks, numbers::wide(x)) {
-            let n = found.rows;
-            let told = found.notes;
-            found = note_form(endings, x, ends, starts, names, values, table, n, told);
+            tally = note_form(lore, x, c, names, values, table, tally);
         }
         x += 1;
     }
-    found
+    tally
 }
 
-// The notes after more than 16 tags of every marked nonterminal: a string of the start, nonterminal 0, is no page then.
-fn noted_deep(marks: u64, notes: Notes) -> Notes
-    ensures { λ r. ⌜ (r .invalid ≡ (notes .invalid || bit marks 0)) × (r .deep ≡ true) × (r .crowded ≡ notes .crowded) ⌝ }
+// The tally after more than 16 tags of every marked nonterminal.
+fn noted_deep(marks: u64, found: Tally) -> Tally
+    ensures { λ r. ⌜ r ≡ record { rows = found .rows; notes = afterDeep marks (found .notes) } ⌝ }
 {
-    Notes {
-        invalid: notes.invalid | useful::marked(marks, 0),
-        deep: true,
-        crowded: notes.crowded,
-    }
+    let notes = found.notes;
+    tallied(
+        found.rows,
+        true,
+        notes.invalid | useful::marked(marks, 0),
+        notes.crowded,
+    )
 }
 
 // One pair of choices under rules of every marked nonterminal: joined once for all of them.
 pub fn one_turn(
-    schema: &[u8],
-    endings: &[u8],
-    states: usize,
-    empty: u64,
-    left: Slot,
-    j: usize,
-    right: Slot,
-    k: usize,
+    lore: &[u64; lore::LORE],
+    pair: Selection,
     marks: u64,
     table: &mut [u64],
-    m: usize,
-    notes: Notes,
+    found: Tally,
 ) -> Turn
-    requires { ⌜ Schooled states (now schema) (now endings) empty ⌝ }
-    requires { ⌜ Choosable (now table) left j ⌝ }
-    requires { ⌜ Choosable (now table) right k ⌝ }
-    requires { ⌜ 5120 ≤ length (now table) ⌝ }
-    requires { ⌜ m ≤ 256 ⌝ }
-    ensures { λ r. ⌜ Turned states (now (schema .entry)) (now (endings .entry)) empty (now (table .entry))
-        left j right k marks m notes r (now (table .exit)) ⌝ }
+    requires { ⌜ IsLore mostStates (now lore) ⌝ }
+    requires { ⌜ Choosable (now table) (pair .left) (pair .j) ⌝ }
+    requires { ⌜ Choosable (now table) (pair .right) (pair .k) ⌝ }
+    requires { ⌜ tableLong ≤ length (now table) ⌝ }
+    requires { ⌜ found .rows ≤ mostImages ⌝ }
+    ensures { λ r. ⌜ Turned (now (lore .entry)) (now (table .entry)) pair marks found r (now (table .exit)) ⌝ }
 {
-    let mut tags = [0u8; 16];
-    let mut relations = [0u64; 17];
-    let b = load(right, k, table, empty, &mut tags, &mut relations);
-    let Loaded::Form(d, u) = b else {
-        return Turn::Kept(m, notes);
+    let empty = pieces::empty(lore);
+    let right = pair.right;
+    let left = pair.left;
+    let mut tags = [0u8; pieces::TAGS];
+    let mut parts = [0u64; pieces::PIECES];
+    let b = load(empty, right, pair.k, table, &mut tags, &mut parts);
+    let Loaded::Form(more) = b else {
+        return Turn::Kept(found);
     };
-    let mut names = [0u8; 16];
-    let mut values = [0u64; 17];
-    let a = load(left, j, table, empty, &mut names, &mut values);
-    let Loaded::Form(e, s) = a else {
-        return Turn::Kept(m, notes);
+    let mut names = [0u8; pieces::TAGS];
+    let mut values = [0u64; pieces::PIECES];
+    let a = load(empty, left, pair.j, table, &mut names, &mut values);
+    let Loaded::Form(c) = a else {
+        return Turn::Kept(found);
     };
-    let t = form::then_form(
-        schema,
-        endings,
-        states,
-        empty,
-        &mut names,
-        &mut values,
-        e,
-        s,
-        &tags,
-        &relations,
-        d,
-        d + u,
-    );
+    let t = form::then_form(lore, &mut names, &mut values, c, &tags, &parts, more);
     match t {
-        form::Step::Kept(e, s) => {
-            let f = note_forms(endings, marks, e, s, &names, &values, table, m, notes);
-            let n = f.rows;
-            let told = f.notes;
-            Turn::Kept(n, told)
+        form::Step::Kept(d) => {
+            let tally = note_forms(lore, marks, d, &names, &values, table, found);
+            Turn::Kept(tally)
         }
         form::Step::Mismatch(_, _) => Turn::Mismatch,
-        form::Step::TooDeep => Turn::Kept(m, noted_deep(marks, notes)),
+        form::Step::TooDeep => Turn::Kept(noted_deep(marks, found)),
     }
 }

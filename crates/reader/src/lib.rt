@@ -1,147 +1,85 @@
 // Reads a run of bytes, tag by tag and left to right, into the two lent arrays of a reduced form. The first byte that is no tag, that
 // makes a mismatch, or that makes one tag too many ends the reading at its place.
 ghost use mathlib.Core.Path.{_≡_};
-ghost use lib.ListN.{getD};
-ghost use Rattle.hedge.specs.Schema.{RulesBelow, EndsBelow};
-ghost use Rattle.hedge.specs.Operations.{relations};
-ghost use Rattle.form.specs.Held.{Holds};
-ghost use Rattle.form.specs.Steps.{Schooled, after-tag};
+ghost use Rattle.hedge.specs.Schema.{mostStates};
+ghost use Rattle.lore.specs.Lore.{IsLore};
+ghost use Rattle.pieces.specs.Pieces.{mostTags, pieceAt, pieces};
+ghost use Rattle.form.specs.Held.{summaryOf, Holds};
+ghost use Rattle.form.specs.Steps.{after-tag};
 ghost use Rattle.reader.specs.Reads.{Reads};
-ghost use Rattle.reader.specs.Feeds.{feedOf, Fed, Progressed};
+ghost use Rattle.reader.specs.Feeds.{progressOf, Fed, Progressed};
 
-// What one byte more leads to.
-pub enum Feed {
-    Kept(usize, usize),
-    NotATag,
-    Mismatch,
-    TooDeep,
-}
-
-// Where reading ended: at the end, with so many ends and starts, or at a place.
+// How far reading came: all was read, with so many ends and starts; or it ended at a place.
 pub enum Progress {
-    Done(usize, usize),
+    Read(form::Counts),
     NotATag(usize),
     Mismatch(usize),
     TooDeep(usize),
 }
 
-// A tag's step as a byte's.
-fn fed(t: form::Step) -> Feed
-    ensures { λ r. ⌜ r ≡ feedOf t ⌝ }
+// A tag's step, at its place.
+fn progressed(t: form::Step, at: usize) -> Progress
+    ensures { λ r. ⌜ r ≡ progressOf t at ⌝ }
 {
     match t {
-        form::Step::Kept(e, s) => Feed::Kept(e, s),
-        form::Step::Mismatch(_, _) => Feed::Mismatch,
-        form::Step::TooDeep => Feed::TooDeep,
+        form::Step::Kept(c) => Progress::Read(c),
+        form::Step::Mismatch(_, _) => Progress::Mismatch(at),
+        form::Step::TooDeep => Progress::TooDeep(at),
     }
 }
 
-// One byte more, where there are `known` names.
-pub fn then_byte(
-    schema: &[u8],
-    endings: &[u8],
-    states: usize,
-    empty: u64,
-    names: &mut [u8; 16],
-    values: &mut [u64; 17],
-    ends: usize,
-    starts: usize,
+// One byte more, where there are `known` names; `at` is its place.
+fn then_byte(
+    lore: &[u64; lore::LORE],
+    names: &mut [u8; pieces::TAGS],
+    values: &mut [u64; pieces::PIECES],
+    c: form::Counts,
     known: u8,
     byte: u8,
-) -> Feed
-    requires { ⌜ Schooled states (now schema) (now endings) empty ⌝ }
-    requires { ⌜ Holds ends starts (now names) (now values) ⌝ }
+    at: usize,
+) -> Progress
+    requires { ⌜ IsLore mostStates (now lore) ⌝ }
+    requires { ⌜ Holds (summaryOf c (now names) (now values)) ⌝ }
     ensures { λ r. ⌜ Fed r (now (names .exit)) (now (values .exit))
-        (after-tag states (now (schema .entry)) (now (endings .entry)) ends starts (now (names .entry)) (now (values .entry)))
-        known byte ⌝ }
+        (after-tag (now (lore .entry)) (summaryOf c (now (names .entry)) (now (values .entry)))) known byte at ⌝ }
 {
     let class = words::class_of(known, byte);
     match class {
         words::Class::Start(a) => {
-            let t = form::then_tag(
-                schema,
-                endings,
-                states,
-                empty,
-                names,
-                values,
-                ends,
-                starts,
-                false,
-                a,
-            );
-            fed(t)
+            let t = form::then_tag(lore, names, values, c, false, a);
+            progressed(t, at)
         }
         words::Class::End(a) => {
-            let t = form::then_tag(
-                schema,
-                endings,
-                states,
-                empty,
-                names,
-                values,
-                ends,
-                starts,
-                true,
-                a,
-            );
-            fed(t)
+            let t = form::then_tag(lore, names, values, c, true, a);
+            progressed(t, at)
         }
-        words::Class::NoTag => Feed::NotATag,
+        words::Class::NoTag => Progress::NotATag(at),
     }
 }
 
 // Reads the bytes one by one into the arrays, which hold the empty word.
 pub fn read_bytes(
-    schema: &[u8],
-    endings: &[u8],
-    states: usize,
-    empty: u64,
-    names: &mut [u8; 16],
-    values: &mut [u64; 17],
+    lore: &[u64; lore::LORE],
+    names: &mut [u8; pieces::TAGS],
+    values: &mut [u64; pieces::PIECES],
     known: u8,
     bytes: &[u8],
 ) -> Progress
-    requires { ⌜ Schooled states (now schema) (now endings) empty ⌝ }
-    requires { ⌜ RulesBelow states (now schema) ⌝ }
-    requires { ⌜ EndsBelow states (now endings) ⌝ }
-    requires { ⌜ Holds 0 0 (now names) (now values) ⌝ }
-    requires { ⌜ getD (now values) 0 0 ≡ empty ⌝ }
+    requires { ⌜ IsLore mostStates (now lore) ⌝ }
+    requires { ⌜ Holds (summaryOf (record { ends = 0; starts = 0 }) (now names) (now values)) ⌝ }
+    requires { ⌜ pieceAt (now values) 0 ≡ pieces (now lore) .unit ⌝ }
     ensures { λ r. ⌜ Progressed r (now (names .exit)) (now (values .exit))
-        (Reads known (relations 8 states (now (schema .entry)) (now (endings .entry))) 16 (now (bytes .entry))) ⌝ }
+        (Reads known (pieces (now (lore .entry))) mostTags (now (bytes .entry))) ⌝ }
 {
-    let mut e = 0;
-    let mut s = 0;
+    let mut c = form::counted(0, 0);
     let mut i = 0;
     while i < bytes.len() {
-        let f = then_byte(
-            schema,
-            endings,
-            states,
-            empty,
-            names,
-            values,
-            e,
-            s,
-            known,
-            bytes[i],
-        );
-        match f {
-            Feed::Kept(a, b) => {
-                e = a;
-                s = b;
-            }
-            Feed::NotATag => {
-                return Progress::NotATag(i);
-            }
-            Feed::Mismatch => {
-                return Progress::Mismatch(i);
-            }
-            Feed::TooDeep => {
-                return Progress::TooDeep(i);
-            }
-        }
+        let p = then_byte(lore, names, values, c, known, bytes[i], i);
+        let Progress::Read(d) = p else {
+            return p;
+        };
+        c = d;
         i += 1;
     }
-    Progress::Done(e, s)
+    Progress::Read(c)
 }

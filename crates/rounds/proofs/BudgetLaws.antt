@@ -5,15 +5,17 @@ use mathlib.Core.List.{List}
 use Prim.Native.Nat.{ℕ, _≤_}
 use native.Mathlib.Omega.{arith}
 use Rattle.hedge.specs.Schema.{Valid}
-use Rattle.template.specs.Schemas.{schemaOf, binoidOf}
+use Rattle.pieces.specs.Pieces.{mostTags}
+use Rattle.schema.specs.Schemas.{schemaOf, binoidOf}
 use Rattle.trees.specs.Verdict.{Decision, met, passed, used}
 use Rattle.trees.proofs.BudgetLaws.{met-not-used, passed-not-used, decides-larger, decided-first}
+use Rattle.worktable.specs.Packed.{mostImages}
 use Rattle.rounds.specs.declared.CheckReply.{CheckReply}
 use Rattle.rounds.specs.declared.CheckReply.the-variants as check
 use Rattle.rounds.specs.Answers.{answer}
-use Rattle.rounds.specs.Checks.{RuleOf, EventOf, NewOf, Lent, Decided, CheckSays}
+use Rattle.rounds.specs.Checks.{RuleOf, EventOf, NewOf, mostRounds, Lent, Decided, CheckSays}
 
-module _ (f t : List ℕ) (budget more : ℕ) (larger : budget ≤ more) (low : 1 ≤ budget) (high : more ≤ 257) where
+module _ (f t : List ℕ) (budget more : ℕ) (larger : budget ≤ more) (low : 1 ≤ budget) (high : more ≤ mostRounds) where
   lent-larger : Lent f t budget → Lent f t more
   lent-larger (room, l, h) = (room, omega (arith, larger, low), high)
 
@@ -34,9 +36,9 @@ module _ (f t : List ℕ) (budget more : ℕ) (larger : budget ≤ more) (low : 
   check-larger check.ShortTable t′ other says = says
 
 -- 257 rounds decide
-pub check-decided : (f t : List ℕ) (s : CheckReply) (t′ : List ℕ) → CheckSays f t 257 s t′ → answer s ≡ 5 → ⊥
+pub check-decided : (f t : List ℕ) (s : CheckReply) (t′ : List ℕ) → CheckSays f t mostRounds s t′ → answer s ≡ 5 → ⊥
 check-decided f t (check.OutOfRounds b) t′ (e, (lent, sound, page, decides), h) five =
-    decided-first (RuleOf f) (binoidOf f) (Valid (schemaOf f)) 16 256 decides
+    decided-first (RuleOf f) (binoidOf f) (Valid (schemaOf f)) mostTags mostImages decides
 check-decided f t (check.Passed r n) t′ says five = omega (arith, five)
 check-decided f t (check.Mismatch r) t′ says five = omega (arith, five)
 check-decided f t (check.Invalid r) t′ says five = omega (arith, five)

@@ -1,53 +1,101 @@
--- Valid pages by their reduced form, under a sound file. A page of no tags has a relation, and the page is valid exactly when state 0
--- leads to an ending state in it; a string with tags left is not balanced, since it would have a second reduced form. Assumes nothing.
-use mathlib.Core.Path.{_≡_}
-use mathlib.Core.Bool.{Bool, true, false, false≢true}
-use mathlib.Core.List.{List}
+-- A page's form, under the lore of a sound file: the two tests at a page's end say whether a word of this form is valid (crate schema), and
+-- either they say so or not. Every file has a lore, whose entries are written down here one by one. Assumes nothing.
+use mathlib.Core.Path.{_≡_, refl, ap, _∙_}
+use mathlib.Core.List.{List, [], _∷_, _++_}
 use mathlib.Core.Logic.{_↔_}
-use Prim.Native.Nat.{ℕ}
+use Prim.Native.Nat.{ℕ, zero, suc, _+_, _*_, _/_, _%_, _<_}
 use native.Mathlib.Omega.{arith}
-use Rattle.words.specs.Tags.{Tag}
+use lib.ListN.{length, getD}
+use lib.Seq.{getD-append-add}
+use Rattle.numbers.specs.Bits.{number}
+use Rattle.words.specs.Tags.{Tag, mostNames}
 use Rattle.words.specs.Balance.{Balanced}
-use Rattle.words.specs.Reduced.{Stack, bottom, push, Reduced}
-use Rattle.words.proofs.ReducedLaws.{reduced-whole}
-use Rattle.words.proofs.ReadLaws.{balanced-bottom}
-use Rattle.hedge.specs.Schema.{Valid}
-use Rattle.hedge.specs.Operations.{accepts}
-use Rattle.hedge.proofs.NumberLaws.{valid-accepts}
-use Rattle.template.specs.Layout.{states, templateRules, schemaRules, endingStates}
+use Rattle.words.specs.Reduced.{Stack, Reduced}
+use Rattle.hedge.specs.Schema.{mostStates, Valid}
+use Rattle.hedge.specs.Operations.{relation, unit}
+use Rattle.lore.specs.Lore.{marked, outer}
+use Rattle.pieces.specs.declared.Piece.{Piece}
+use Rattle.form.specs.Endings.{endingOf}
+use Rattle.form.specs.declared.Ending.{Ending}
+use Rattle.form.specs.declared.Ending.the-variants.{Page, Unmatched, NotDerived}
+use Rattle.template.specs.Layout.{states, schemaRules, endingStates}
 use Rattle.template.specs.Order.{IsSound}
-use Rattle.template.proofs.SoundLaws.{sound-file}
-use Rattle.template.proofs.GrammarLaws.{schema-rules-below, endings-below}
-use Rattle.template.specs.Schemas.{schemaOf, binoidOf}
-use Rattle.template.proofs.ShapeLaws.{lawsOf}
+use Rattle.schema.specs.Schemas.{schemaOf, binoidOf, LoreOf}
+use Rattle.schema.proofs.SchemaLaws.{ending-page}
 use Rattle.walk.specs.Walks.{ValidForm}
 
--- a page's form under the file
-abbrev pub PageForm : List ℕ → Stack ℕ → ℕ → Type 0
-PageForm f s c = ValidForm (states f) (templateRules f) (schemaRules f) (endingStates f) s c
+page-decided : (e : Ending) → Dec (e ≡ Page)
+page-decided Page = yes refl
+page-decided Unmatched = no (λ e. let z : _≡_ {A = ℕ} 0 1 = cc e in omega (arith, z))
+page-decided NotDerived = no (λ e. let z : _≡_ {A = ℕ} 0 1 = cc e in omega (arith, z))
 
-true-decided : (b : Bool) → Dec (b ≡ true)
-true-decided true = yes (λ i. true)
-true-decided false = no false≢true
+pub form-decided : (lore : List ℕ) (s : Stack Piece) (c : Piece) → Dec (ValidForm lore s c)
+form-decided lore s c = page-decided (endingOf lore s c)
 
-pub form-decided : (f : List ℕ) (s : Stack ℕ) (c : ℕ) → Dec (PageForm f s c)
-form-decided f bottom c = true-decided (accepts 8 (endingStates f) c)
-form-decided f (push s h t) c = no (λ e. e)
+pub valid-balanced : (f : List ℕ) (w : List Tag) → Valid (schemaOf f) w → Balanced w
+valid-balanced f w v = v .0
 
-module _ (f : List ℕ) (sound : IsSound f) where
-  pub valid-balanced : (w : List Tag) → Valid (schemaOf f) w → Balanced w
-  valid-balanced w v = v .0
+pub valid-form : (f lore : List ℕ) → IsSound f → LoreOf f lore → (w : List Tag) (s : Stack Piece) (c : Piece) → Reduced (binoidOf f) w s c
+    → Valid (schemaOf f) w ↔ ValidForm lore s c
+valid-form f lore sound taught w s c d =
+    let (there, back) = ending-page f lore sound taught w s c d in
+    (back, there)
 
-  pub valid-form : (w : List Tag) (s : Stack ℕ) (c : ℕ) → Reduced (binoidOf f) w s c → Valid (schemaOf f) w ↔ PageForm f s c
-  valid-form w bottom c d =
-      let file = sound-file f sound in
-      let (there, back) = valid-accepts 8 (states f) (file .few-states) (schemaRules f) (endingStates f)
-      (schema-rules-below f file) (endings-below f file) (reduced-whole (binoidOf f) d) in
-      (back, there)
-  valid-form w (push s h t) c d = (
-    λ v.
-        let e : push s h t ≡ bottom = balanced-bottom (binoidOf f) (lawsOf f sound) (v .0) d in
-        let z : _≡_ {A = ℕ} 0 1 = cc e in
-        omega (arith, z),
-    λ e. absurd e,
-  )
+-- ---- every file has a lore
+
+-- the n values of g from k on
+entriesFrom : (ℕ → ℕ) → ℕ → ℕ → List ℕ
+entriesFrom g k zero = []
+entriesFrom g k (suc n) = g k ∷ entriesFrom g (suc k) n
+
+entries-length : (g : ℕ → ℕ) (k n : ℕ) → length (entriesFrom g k n) ≡ n
+unfolding entriesFrom
+entries-length g k zero = refl
+entries-length g k (suc n) = ap suc (entries-length g (suc k) n)
+
+entries-at : (g : ℕ → ℕ) (k n j : ℕ) → j < n → getD (entriesFrom g k n) j 0 ≡ g (k + j)
+unfolding entriesFrom
+entries-at g k zero j h = absurd (omega arith)
+entries-at g k (suc n) zero h = let e : k ≡ k + 0 = omega arith in ap g e
+entries-at g k (suc n) (suc j) h =
+    let e : suc k + j ≡ k + suc j = omega arith in
+    entries-at g (suc k) n j (omega arith) ∙ ap g e
+
+module _ (f : List ℕ) where
+  -- the entry of name k / 8 and inner state k % 8
+  maskAt : ℕ → ℕ
+  maskAt k = relation mostStates (outer (schemaRules f) (k / mostStates) (k % mostStates) (length (schemaRules f) / 4))
+
+  abbrev headEntries : List ℕ
+  headEntries =
+      states f ∷ number mostStates (marked (endingStates f) (length (endingStates f))) ∷ unit mostStates (states f) ∷ 0 ∷ 0 ∷ 0 ∷ 0 ∷ 0 ∷ []
+
+  abbrev masks : List ℕ
+  masks = entriesFrom maskAt 0 (mostNames * mostStates)
+
+  pub someLore : List ℕ
+  someLore = headEntries ++ masks
+
+  mask-is : (a y : ℕ) → y < mostStates
+      → maskAt (a * mostStates + y) ≡ relation mostStates (outer (schemaRules f) a y (length (schemaRules f) / 4))
+  unfolding maskAt
+  mask-is a y h =
+      let d : (a * mostStates + y) / mostStates ≡ a = omega (arith, h) in
+      let m : (a * mostStates + y) % mostStates ≡ y = omega (arith, h) in
+      rw (d, m)
+
+  pub some-taught : LoreOf f someLore
+  unfolding someLore
+  some-taught = record {
+    states = refl;
+    endings = refl;
+    empty = refl;
+    masks = record {
+      long = omega (arith, entries-length maskAt 0 (mostNames * mostStates));
+      entries = λ a y ha hy.
+          let j = a * mostStates + y in
+          let e : 0 + j ≡ j = omega arith in
+          getD-append-add headEntries masks j 0
+          ∙ (entries-at maskAt 0 (mostNames * mostStates) j (omega (arith, ha, hy)) ∙ (ap maskAt e ∙ mask-is a y hy));
+    };
+  }

@@ -1,11 +1,11 @@
 pub mod FormLaws
-pub mod ListedLaws
 pub mod ResultLaws
-pub mod StateLaws
+pub mod ListedLaws
 pub mod WalkedLaws
+pub mod StateLaws
 pub mod DecisionLaws
 pub mod PassLaws
-pub mod UniqueLaws
-pub mod BudgetLaws
-pub mod PartLaws
 pub mod EndLaws
+pub mod PartLaws
+pub mod BudgetLaws
+pub mod UniqueLaws

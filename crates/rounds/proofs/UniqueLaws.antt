@@ -11,10 +11,11 @@ use Rattle.template.specs.declared.Reading.the-variants.{Bad}
 use Rattle.template.proofs.ShapeLaws.{sound-not-bad}
 use Rattle.trees.specs.Verdict.{Decision, met, passed, used, Decides}
 use Rattle.trees.proofs.BudgetLaws.{decides-unique}
-use Rattle.worktable.proofs.SortLaws.{ascending-unique}
+use Rattle.rows.proofs.SortLaws.{ascending-unique}
+use Rattle.worktable.specs.Packed.{tableLong}
 use Rattle.rounds.specs.declared.CheckReply.{CheckReply}
 use Rattle.rounds.specs.declared.CheckReply.the-variants as check
-use Rattle.rounds.specs.Checks.{EventOf, NewOf, HasPage, Rows, shown, zeroed, Lent, Decided, CheckSays}
+use Rattle.rounds.specs.Checks.{EventOf, NewOf, HasPage, Rows, mostRounds, afterPass, zeroed, Lent, Decided, CheckSays}
 use Rattle.rounds.proofs.ListedLaws.{pair-one-row}
 
 -- ---- one list of rows
@@ -65,7 +66,7 @@ module _ (f t : List ℕ) (budget : ℕ) where
   Answered (met r (suc (suc (suc zero)))) s u = Exactly (check.TooDeep r) (zeroed t) s u
   Answered (met r (suc (suc (suc (suc zero))))) s u = Exactly (check.Crowded r) (zeroed t) s u
   Answered (met r (suc (suc (suc (suc (suc k)))))) s u = ⊥
-  Answered (passed r) s u = (rows : List (List ℕ)) × Rows f r rows × Exactly (check.Passed r (length rows)) (shown rows t) s u
+  Answered (passed r) s u = (rows : List (List ℕ)) × Rows f r rows × Exactly (check.Passed r (length rows)) (afterPass rows t) s u
   Answered used s u = Exactly (check.OutOfRounds budget) (zeroed t) s u
 
   answered-unique : (d : Decision) → Unique (Answered d)
@@ -76,8 +77,8 @@ module _ (f t : List ℕ) (budget : ℕ) where
   answered-unique (met q (suc (suc (suc (suc zero))))) = exactly-unique (check.Crowded q) (zeroed t)
   answered-unique (met q (suc (suc (suc (suc (suc k)))))) = λ r s u v a b. absurd a
   answered-unique (passed q) = λ r s u v (rows, x, a) (rows′, y, b).
-      exactly-unique (check.Passed q (length rows)) (shown rows t) r s u v a
-      (subst (λ (l : List (List ℕ)). Exactly (check.Passed q (length l)) (shown l t) s v) (rows-unique f q rows′ rows y x) b)
+      exactly-unique (check.Passed q (length rows)) (afterPass rows t) r s u v a
+      (subst (λ (l : List (List ℕ)). Exactly (check.Passed q (length l)) (afterPass l t) s v) (rows-unique f q rows′ rows y x) b)
   answered-unique used = exactly-unique (check.OutOfRounds budget) (zeroed t)
 
   -- the rounds
@@ -102,19 +103,19 @@ module _ (f t : List ℕ) (budget : ℕ) where
 
   -- all in their order
   abbrev pub NoBudget : Type 0
-  NoBudget = (1 ≤ budget) × (budget ≤ 257) → ⊥
+  NoBudget = (1 ≤ budget) × (budget ≤ mostRounds) → ⊥
 
   abbrev pub Paged : Promise
   Paged = Either (HasPage f → ⊥) (Exactly check.NoPage t) Rounded
 
   abbrev pub OrderedPromise : Promise
   OrderedPromise =
-      Either (length t < 5120) (Exactly check.ShortTable t)
+      Either (length t < tableLong) (Exactly check.ShortTable t)
       (Either NoBudget (Exactly check.BadBudget t) (Either Faulty Faulted Paged))
 
   pub ordered-unique : Unique OrderedPromise
   ordered-unique =
-      either-unique (length t < 5120) (Exactly check.ShortTable t) _ (exactly-unique check.ShortTable t)
+      either-unique (length t < tableLong) (Exactly check.ShortTable t) _ (exactly-unique check.ShortTable t)
       (either-unique NoBudget (Exactly check.BadBudget t) _ (exactly-unique check.BadBudget t)
       (either-unique Faulty Faulted _ faulted-unique
       (either-unique (HasPage f → ⊥) (Exactly check.NoPage t) Rounded (exactly-unique check.NoPage t) rounded-unique)))

@@ -1,28 +1,32 @@
--- The walk of a round under a file: what it asks and says of the file's parts, and the event that its notes tell where it met no mismatch.
--- Document 01, "Rounds and heights": "The first round with an event decides, and in it the lowest number."
+-- The event that a round's walk met. Document 01, "Rounds and heights": "The first round with an event decides, and in it the lowest number."
 use mathlib.Core.Path.{_≡_}
-use mathlib.Core.Bool.{Bool, true, false}
-use mathlib.Core.List.{List}
+use mathlib.Core.Bool.{true, false}
 use Prim.Native.Nat.{ℕ}
-use Rattle.template.specs.Layout.{states, templateRules, schemaRules, endingStates}
-use Rattle.walk.specs.Walks.{Tidy, Ready, Walked}
-use Rattle.pairs.specs.declared.Notes.{Notes}
 use Rattle.walk.specs.declared.Walk.{Walk}
+use Rattle.walk.specs.declared.Walk.the-variants.{Stopped, Went}
 use Rattle.rounds.specs.declared.Event.{Event}
-use Rattle.rounds.specs.declared.Event.the-variants.{Invalid, TooDeep, Crowded, Nothing}
+use Rattle.rounds.specs.declared.Event.the-variants.{Mismatch, Invalid, TooDeep, Crowded, Quiet}
+use Rattle.rounds.specs.declared.CheckReply.{CheckReply}
+use Rattle.rounds.specs.declared.CheckReply.the-variants as check
 
-module _ (f : List ℕ) where
-  abbrev pub TidyUnder : List ℕ → ℕ → Type 0
-  TidyUnder = Tidy (states f) (templateRules f) (schemaRules f) (endingStates f)
+-- a mismatch where the walk stopped, else the lowest that it noted, else none, with so many rows
+abbrev pub Met : Walk → Event → Type 0
+Met Stopped Mismatch = Unit {0}
+Met Stopped Invalid = ⊥
+Met Stopped TooDeep = ⊥
+Met Stopped Crowded = ⊥
+Met Stopped (Quiet m) = ⊥
+Met (Went tally) Mismatch = ⊥
+Met (Went tally) Invalid = tally .notes .invalid ≡ true
+Met (Went tally) TooDeep = (tally .notes .invalid ≡ false) × (tally .notes .deep ≡ true)
+Met (Went tally) Crowded = (tally .notes .invalid ≡ false) × (tally .notes .deep ≡ false) × (tally .notes .crowded ≡ true)
+Met (Went tally) (Quiet m) =
+    (tally .notes .invalid ≡ false) × (tally .notes .deep ≡ false) × (tally .notes .crowded ≡ false) × (m ≡ tally .rows)
 
-  abbrev pub ReadyUnder : List ℕ → ℕ → ℕ → Bool → Type 0
-  ReadyUnder = Ready (states f) (templateRules f) (schemaRules f) (endingStates f)
-
-  abbrev pub WalkedUnder : List ℕ → ℕ → Walk → List ℕ → Type 0
-  WalkedUnder = Walked (states f) (templateRules f) (schemaRules f) (endingStates f)
-
-abbrev pub Tells : Notes → Event → Type 0
-Tells notes Invalid = notes .invalid ≡ true
-Tells notes TooDeep = (notes .invalid ≡ false) × (notes .deep ≡ true)
-Tells notes Crowded = (notes .invalid ≡ false) × (notes .deep ≡ false) × (notes .crowded ≡ true)
-Tells notes Nothing = (notes .invalid ≡ false) × (notes .deep ≡ false) × (notes .crowded ≡ false)
+-- the reply to an event of round r
+abbrev pub replyOf : Event → ℕ → CheckReply
+replyOf Mismatch r = check.Mismatch r
+replyOf Invalid r = check.Invalid r
+replyOf TooDeep r = check.TooDeep r
+replyOf Crowded r = check.Crowded r
+replyOf (Quiet m) r = check.OutOfRounds r

@@ -2,14 +2,19 @@
 ghost use mathlib.Core.Path.{_≡_};
 ghost use Prim.Native.Nat.{_≤_};
 ghost use lib.ListN.{length};
+ghost use Rattle.template.specs.Layout.{templateRules};
 ghost use Rattle.template.specs.Order.{reading};
 ghost use Rattle.template.specs.declared.Reading.the-variants.{Sound};
-ghost use Rattle.trees.specs.Trees.{Useful};
-ghost use Rattle.worktable.specs.Tables.{cleared};
-ghost use Rattle.useful.specs.Marks.{MarksAll};
-ghost use Rattle.rounds.specs.Walking.{TidyUnder, ReadyUnder, WalkedUnder, Tells};
-ghost use Rattle.rounds.specs.Checks.{RuleOf, HasPage, Lent, CheckSays};
+ghost use Rattle.schema.specs.Schemas.{LoreOf};
+ghost use Rattle.rows.specs.Tables.{cleared};
+ghost use Rattle.worktable.specs.Packed.{tableLong};
+ghost use Rattle.shares.specs.Shares.{Shares};
+ghost use Rattle.rounds.specs.Walking.{Met, replyOf};
+ghost use Rattle.rounds.specs.Checks.{HasPage, Lent, CheckSays};
 ghost use Rattle.rounds.specs.Answers.{answer, number, images};
+
+// The most rounds that a budget allows.
+pub const ROUNDS: usize = worktable::IMAGES + 1;
 
 // What the check answers, with the round and, where it passed, the number of images.
 pub enum CheckReply {
@@ -25,18 +30,23 @@ pub enum CheckReply {
     ShortTable,
 }
 
-// The event of a round by its notes, the lowest number first.
+// What a round met, the lowest number first; or none of these, with so many rows.
 pub enum Event {
+    Mismatch,
     Invalid,
     TooDeep,
     Crowded,
-    Nothing,
+    Quiet(usize),
 }
 
-// The event that the notes of a walk tell.
-fn event_of(notes: pairs::Notes) -> Event
-    ensures { λ r. ⌜ Tells notes r ⌝ }
+// The event that a walk met.
+fn event_of(w: walk::Walk) -> Event
+    ensures { λ r. ⌜ Met w r ⌝ }
 {
+    let walk::Walk::Went(tally) = w else {
+        return Event::Mismatch;
+    };
+    let notes = tally.notes;
     if notes.invalid {
         return Event::Invalid;
     }
@@ -46,97 +56,67 @@ fn event_of(notes: pairs::Notes) -> Event
     if notes.crowded {
         return Event::Crowded;
     }
-    Event::Nothing
+    Event::Quiet(tally.rows)
 }
 
-// One round's walk, over the parts of a sound file of these numbers.
-fn one_round(
-    file: &[u8],
-    shape: template::Shape,
-    useful: u64,
-    table: &mut [u64],
-    prev: usize,
-    n: usize,
-    first: bool,
-) -> walk::Walk
-    requires { ⌜ reading (now file) ≡ Sound shape ⌝ }
-    requires { ⌜ MarksAll useful (Useful (RuleOf (now file))) ⌝ }
-    requires { ⌜ TidyUnder (now file) (now table) n ⌝ }
-    requires { ⌜ ReadyUnder (now file) (now table) prev n first ⌝ }
-    ensures { λ r. ⌜ WalkedUnder (now (file .entry)) (now (table .entry)) n r (now (table .exit)) ⌝ }
+// The reply to an event of round r.
+fn reply_of(e: Event, r: usize) -> CheckReply
+    ensures { λ s. ⌜ s ≡ replyOf e r ⌝ }
 {
-    let rules = template::template_rules(file, shape.templates);
-    let schema = template::schema_rules(file, shape.templates, shape.schema);
-    let endings = template::ending_states(file, shape.templates, shape.schema, shape.endings);
-    let states = numbers::wide(shape.states);
-    let empty = hedge::unit(states);
-    walk::walk_round(
-        rules,
-        schema,
-        endings,
-        states,
-        empty,
-        useful,
-        table,
-        prev,
-        n,
-        first,
-    )
+    match e {
+        Event::Mismatch => CheckReply::Mismatch(r),
+        Event::Invalid => CheckReply::Invalid(r),
+        Event::TooDeep => CheckReply::TooDeep(r),
+        Event::Crowded => CheckReply::Crowded(r),
+        Event::Quiet(_) => CheckReply::OutOfRounds(r),
+    }
 }
 
 // Zeros in all entries of the worktable.
 fn wipe(table: &mut [u64])
-    requires { ⌜ 5120 ≤ length (now table) ⌝ }
-    ensures { λ r. ⌜ now (table .exit) ≡ cleared (now (table .entry)) 0 5120 ⌝ }
+    requires { ⌜ tableLong ≤ length (now table) ⌝ }
+    ensures { λ r. ⌜ now (table .exit) ≡ cleared (now (table .entry)) 0 tableLong ⌝ }
 {
-    worktable::clear(table, 0, 5120);
+    rows::clear(table, 0, worktable::TABLE);
 }
 
-// Rounds until one decides or the budget is used.
+// Rounds until one decides or the budget is used, over the template rules of a sound file, its taught schema and the rules' shares.
 fn rounds(
     file: &[u8],
     shape: template::Shape,
-    useful: u64,
+    lore: &[u64; lore::LORE],
+    shares: &[u64; template::RULES],
     table: &mut [u64],
     budget: usize,
 ) -> CheckReply
     requires { ⌜ reading (now file) ≡ Sound shape ⌝ }
+    requires { ⌜ LoreOf (now file) (now lore) ⌝ }
+    requires { ⌜ Shares (templateRules (now file)) (now shares) ⌝ }
     requires { ⌜ HasPage (now file) ⌝ }
-    requires { ⌜ MarksAll useful (Useful (RuleOf (now file))) ⌝ }
     requires { ⌜ Lent (now file) (now table) budget ⌝ }
     ensures { λ r. ⌜ CheckSays (now (file .entry)) (now (table .entry)) budget r (now (table .exit)) ⌝ }
 {
+    let rules = template::template_rules(file, shape.templates);
     let mut prev = 0;
     let mut n = 0;
     let mut r = 0;
     while r < budget {
-        let w = one_round(file, shape, useful, table, prev, n, r == 0);
-        r += 1;
-        let walk::Walk::Went(m, notes) = w else {
-            wipe(table);
-            return CheckReply::Mismatch(r);
+        let round = walk::Round {
+            prev: prev,
+            rows: n,
+            first: r == 0,
         };
-        let e = event_of(notes);
-        match e {
-            Event::Invalid => {
-                wipe(table);
-                return CheckReply::Invalid(r);
-            }
-            Event::TooDeep => {
-                wipe(table);
-                return CheckReply::TooDeep(r);
-            }
-            Event::Crowded => {
-                wipe(table);
-                return CheckReply::Crowded(r);
-            }
-            Event::Nothing => {
-                if m == n {
-                    worktable::sort(table, n);
-                    worktable::clear(table, n * 20, 5120);
-                    return CheckReply::Passed(r, n);
-                }
-            }
+        let w = walk::walk_round(rules, lore, shares, table, round);
+        r += 1;
+        let e = event_of(w);
+        let Event::Quiet(m) = e else {
+            wipe(table);
+            return reply_of(e, r);
+        };
+        if m == n {
+            rows::sort(table, worktable::ROW, n);
+            rows::clear(table, n * worktable::ROW, worktable::TABLE);
+            return CheckReply::Passed(r, n);
         }
         prev = n;
         n = m;
@@ -145,32 +125,36 @@ fn rounds(
     CheckReply::OutOfRounds(budget)
 }
 
-// Checks a sound file of these numbers.
+// Checks a sound file of these numbers. What does not change between rounds is found here, once.
 fn check_sound(file: &[u8], shape: template::Shape, table: &mut [u64], budget: usize) -> CheckReply
     requires { ⌜ reading (now file) ≡ Sound shape ⌝ }
-    requires { ⌜ (5120 ≤ length (now table)) × (1 ≤ budget) × (budget ≤ 257) ⌝ }
+    requires { ⌜ Lent (now file) (now table) budget ⌝ }
     ensures { λ r. ⌜ CheckSays (now (file .entry)) (now (table .entry)) budget r (now (table .exit)) ⌝ }
 {
     let rules = template::template_rules(file, shape.templates);
-    let fruitful = useful::productive(rules);
-    if !useful::marked(fruitful, 0) {
+    let productive = useful::productive(rules);
+    if !useful::marked(productive, 0) {
         return CheckReply::NoPage;
     }
-    let useful = useful::reached(rules, fruitful);
-    rounds(file, shape, useful, table, budget)
+    let useful = useful::reached(rules, productive);
+    let mut shares = [0u64; template::RULES];
+    shares::share(rules, productive, useful, &mut shares);
+    let mut lore = [0u64; lore::LORE];
+    schema::teach(file, shape, &mut lore);
+    rounds(file, shape, &lore, &shares, table, budget)
 }
 
 // Checks a template set: 9, 8, 7, 6, then rounds.
 pub fn check(file: &[u8], table: &mut [u64], budget: usize) -> CheckReply
     ensures { λ r. ⌜ CheckSays (now (file .entry)) (now (table .entry)) budget r (now (table .exit)) ⌝ }
 {
-    if table.len() < 5120 {
+    if table.len() < worktable::TABLE {
         return CheckReply::ShortTable;
     }
     if budget < 1 {
         return CheckReply::BadBudget;
     }
-    if 257 < budget {
+    if ROUNDS < budget {
         return CheckReply::BadBudget;
     }
     let r = template::read(file);

@@ -1,5 +1,5 @@
-// Reads one template file from standard input, checks it with budget 64, and prints one line: answer, number, images. The longest sound
-// file has 1,560 bytes; one byte more is read, so that a longer file is seen to be too long.
+// Reads one template file from standard input, checks it with budget 64, and prints one line: answer, number, images. One byte more than
+// the longest sound file has is read, so that a longer file is seen to be too long.
 use libc::STDIN_FILENO;
 use libc::STDOUT_FILENO;
 
@@ -21,9 +21,9 @@ fn show(r: rounds::CheckReply) {
 }
 
 fn main() {
-    let mut buffer = [0u8; 1561];
+    let mut buffer = [0u8; template::LONGEST + 1];
     let n = io::read_full(STDIN_FILENO, &mut buffer);
-    let mut table = [0u64; 5120];
+    let mut table = [0u64; worktable::TABLE];
     let r = rounds::check(&buffer[..n], &mut table, 64);
     show(r);
 }

@@ -11,9 +11,10 @@ use native.Mathlib.Omega.{arith}
 use lib.Dec.{eqb, ltb, leb}
 use lib.ListN.{getD}
 use borrow.Author.Needs.{needs}
-use Rattle.hedge.specs.Operations.{covers}
+use Rattle.pieces.specs.declared.Piece.{Piece}
+use Rattle.pieces.specs.Pieces.{pieceAt, fitsIn, isNone}
 use Rattle.numbers.proofs.TestLaws.{and-out}
-use Rattle.summary.specs.Packing.{every, nameFits, valueFits}
+use Rattle.summary.specs.Packing.{every, nameFits, pieceFits}
 
 -- ---- the loop
 
@@ -29,18 +30,18 @@ module _ (n : ℕ) (f : ℕ → Bool) where
   pub every-end : (m : ℕ) (t : Bool) → t ≡ every n f → n ≤ m → m ≤ n → t ≡ every m f
   every-end m t e h h′ = let d : n ≡ m = omega arith in rw (← d) e
 
--- one name more, one relation more
+-- one name more, one piece more
 pub names-next : (A n k : ℕ) (names : List ℕ) (t u : Bool) → t ≡ every k (nameFits A n names)
     → u ≡ cond (ltb k n) (ltb (getD names k 0) A) (eqb (getD names k 0) 0)
     → (t && u) ≡ every (k + 1) (nameFits A n names)
 unfolding nameFits
 names-next A n k names t u et eu = every-next k (nameFits A n names) t u et eu
 
-pub values-next : (all n k : ℕ) (values : List ℕ) (t u : Bool) → t ≡ every k (valueFits all n values)
-    → u ≡ cond (leb k n) (covers all (getD values k 0)) (eqb (getD values k 0) 0)
-    → (t && u) ≡ every (k + 1) (valueFits all n values)
-unfolding valueFits
-values-next all n k values t u et eu = every-next k (valueFits all n values) t u et eu
+pub pieces-next : (q n k : ℕ) (values : List ℕ) (t u : Bool) → t ≡ every k (pieceFits q n values) → (p : Piece) → p ≡ pieceAt values k
+    → u ≡ cond (leb k n) (fitsIn q p) (isNone p)
+    → (t && u) ≡ every (k + 1) (pieceFits q n values)
+unfolding pieceFits
+pieces-next q n k values t u et p ep eu = every-next k (pieceFits q n values) t u et (rw (← ep) eu)
 
 -- ---- a choice
 
@@ -50,7 +51,7 @@ cond-first t a b c e h = rw e h
 pub cond-second : (t a b c : Bool) → t ≡ false → c ≡ b → c ≡ cond t a b
 cond-second t a b c e h = rw e h
 
-pub ruleset fits-turns = (every-none, every-end, names-next, values-next, cond-first, cond-second, needs)
+pub ruleset fits-turns = (every-none, every-end, names-next, pieces-next, cond-first, cond-second, needs)
 
 -- ---- what passes
 

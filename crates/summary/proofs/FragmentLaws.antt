@@ -1,79 +1,95 @@
--- The replies of reading a fragment, from what the code has: what reading found with the numbers and parts of a sound file is found under
--- the file, and what it left in the arrays is packed. Assumes nothing.
+-- The replies of reading a fragment, from what the code has: what reading left in the arrays is packed, a refusal's summary is all zeros;
+-- and what was found with the lore and the names of a sound file is found under the file. Assumes nothing.
 use mathlib.Core.Path.{_≡_, refl}
 use mathlib.Core.List.{List}
-use Prim.Native.Nat.{ℕ, _+_, _*_}
-use Rattle.hedge.specs.Operations.{relations}
-use Rattle.template.specs.Layout.{partOf}
-use Rattle.template.specs.Order.{reading}
+use Prim.Native.Nat.{ℕ}
+use native.Mathlib.Omega.{arith}
+use lib.ListN.{replicate}
+use borrow.Author.Needs.{needs}
+use Rattle.hedge.specs.Schema.{mostStates}
+use Rattle.lore.specs.Lore.{IsLore}
+use Rattle.pieces.specs.declared.Piece.{Piece}
+use Rattle.pieces.specs.Pieces.{mostTags, piecesLong, pieceAt, putPiece, lifted, pieces}
+use Rattle.pieces.proofs.PieceLaws.{piece-same}
+use Rattle.template.specs.Order.{IsSound, reading}
 use Rattle.template.specs.declared.Reading.the-variants.{Sound, Bad}
 use Rattle.template.specs.declared.Shape.{Shape}
+use Rattle.template.proofs.ShapeLaws.{read-is, shape-sound, names-are}
+use Rattle.form.specs.Held.{summaryOf, Holds}
+use Rattle.form.specs.declared.Counts.{Counts}
+use Rattle.form.specs.declared.Summary.{Summary}
+use Rattle.form.proofs.TagLaws.{holds-none}
+use Rattle.schema.specs.Schemas.{LoreOf}
+use Rattle.schema.proofs.SchemaLaws.{file-lore, lore-carries}
 use Rattle.reader.specs.Reads.{Reads, Found}
 use Rattle.reader.specs.Feeds.{Progressed}
 use Rattle.reader.specs.declared.Progress.{Progress}
 use Rattle.reader.specs.declared.Progress.the-variants as progress
-use borrow.Author.Needs.{needs}
 use Rattle.summary.specs.declared.FragmentAnswer.{FragmentAnswer}
 use Rattle.summary.specs.declared.FragmentAnswer.the-variants.{Summarised, BadFile, NotATag, Mismatch, TooDeep}
 use Rattle.summary.specs.declared.FragmentReply.{FragmentReply}
 use Rattle.summary.specs.Packing.{zeros}
-use Rattle.summary.specs.Fragments.{ReadUnder, FragmentAnswers, FragmentSays}
+use Rattle.summary.specs.Fragments.{ReadUnder, FragmentAnswers, FragmentSays, FragmentFinds}
 use Rattle.summary.proofs.PackingLaws.{holds-packs}
-use Rattle.template.proofs.ShapeLaws.{read-is, shape-sound, names-are, states-are, states-few, rules-are, endings-are}
-use Rattle.template.proofs.ShapeLaws.{rules-below, ends-below}
-use Rattle.summary.proofs.ShapeLaws.{schooled}
 
--- a reply that says why it refused
+-- ---- the empty word in the arrays
 
-says-answer : (f bytes : List ℕ) (r : FragmentReply) (a : FragmentAnswer) → (r .answer ≡ a) × (r .summary ≡ zeros)
-    → FragmentAnswers f bytes a zeros → FragmentSays f bytes r
-says-answer f bytes r a h p = rw (h .0, h .1) p
+module _ (p : Piece) (values : List ℕ) (put : values ≡ putPiece (replicate piecesLong 0) 0 p) where
+  pub empty-holds : Holds (summaryOf (record { ends = 0; starts = 0 }) (replicate mostTags 0) values)
+  empty-holds = rw put (holds-none p)
+
+  pub empty-first : pieceAt values 0 ≡ p
+  empty-first = rw put (piece-same (replicate piecesLong 0) 0 p refl (omega arith))
+
+-- ---- what reading finds
+
+module _ (known : ℕ) (lore bytes : List ℕ) where
+  abbrev Finds : Found Piece → Type 0
+  Finds = Reads known (pieces lore) mostTags bytes
+
+  module _ (p : Progress) (names values : List ℕ) (read : Progressed p names values Finds) where
+    pub finds-summarised : (c : Counts) → p ≡ progress.Read c → FragmentFinds Finds Summarised (summaryOf c names values)
+    finds-summarised c d = let (k, r) = rw d at read in (_, _, r, holds-packs (summaryOf c names values) k)
+
+    module _ (r : FragmentReply) (i : ℕ) where
+      pub finds-no-tag : p ≡ progress.NotATag i → (r .answer ≡ NotATag i) × (r .summary ≡ zeros)
+          → FragmentFinds Finds (r .answer) (r .summary)
+      finds-no-tag d a = rw (a .0) (rw d at read, a .1)
+
+      pub finds-mismatch : p ≡ progress.Mismatch i → (r .answer ≡ Mismatch i) × (r .summary ≡ zeros)
+          → FragmentFinds Finds (r .answer) (r .summary)
+      finds-mismatch d a = rw (a .0) (rw d at read, a .1)
+
+      pub finds-deep : p ≡ progress.TooDeep i → (r .answer ≡ TooDeep i) × (r .summary ≡ zeros)
+          → FragmentFinds Finds (r .answer) (r .summary)
+      finds-deep d a = rw (a .0) (rw d at read, a .1)
+
+pub ruleset finds-turns = (finds-summarised, finds-no-tag, finds-mismatch, finds-deep, needs)
+
+-- ---- what a file's fragment is answered
 
 pub says-bad : (f bytes : List ℕ) (r : FragmentReply) (p : ℕ) → (r .answer ≡ BadFile p) × (r .summary ≡ zeros)
     → reading f ≡ Bad p → FragmentSays f bytes r
-says-bad f bytes r p h e = says-answer f bytes r (BadFile p) h (e, refl)
+says-bad f bytes r p h e = rw (h .0) (e, h .1)
 
-module _ (f : List ℕ) (shape : Shape) (sound : reading f ≡ Sound shape) (q : ℕ) (h : q ≡ shape .states) (schema endings : List ℕ)
-    (hs : schema ≡ partOf f (16 + 4 * shape .templates) (4 * shape .schema))
-    (he : endings ≡ partOf f (16 + 4 * shape .templates + 4 * shape .schema) (shape .endings)) (bytes : List ℕ) where
-  abbrev Reading : Found ℕ → Type 0
-  Reading = Reads (shape .names) (relations 8 q schema endings) 16 bytes
+answers-found : (f bytes : List ℕ) → IsSound f → (a : FragmentAnswer) (s : Summary) → FragmentFinds (ReadUnder f bytes) a s
+    → FragmentAnswers f bytes a s
+answers-found f bytes sound Summarised s h = (sound, h)
+answers-found f bytes sound (BadFile p) s h = absurd h
+answers-found f bytes sound (NotATag p) s (r, z) = (sound, r, z)
+answers-found f bytes sound (Mismatch p) s (r, z) = (sound, r, z)
+answers-found f bytes sound (TooDeep p) s (r, z) = (sound, r, z)
 
-  under : (found : Found ℕ) → Reading found → ReadUnder f bytes found
-  under found r =
-      rw (
-        names-are f shape sound,
-        states-are f shape sound q h,
-        rules-are f shape sound q h schema endings hs he,
-        endings-are f shape sound q h schema endings hs he,
-      ) at r
+module _ (f : List ℕ) (shape : Shape) (sound : reading f ≡ Sound shape) (lore : List ℕ) (taught : LoreOf f lore) where
+  pub taught-lore : IsLore mostStates lore
+  taught-lore = file-lore f lore (shape-sound f shape sound) taught
 
-  module _ (p : Progress) (names values : List ℕ) (read : Progressed p names values Reading) where
-    pub says-summarised : (e s : ℕ) → p ≡ progress.Done e s
-        → FragmentAnswers f bytes Summarised (record { ends = e; starts = s; names = names; relations = values })
-    says-summarised e s d =
-        let (k, r) = rw d at read in
-        (shape-sound f shape sound, (_, _, under _ r, holds-packs e s names values k))
+  pub says-found : (bytes : List ℕ) (r : FragmentReply)
+      → FragmentFinds (Reads (shape .names) (pieces lore) mostTags bytes) (r .answer) (r .summary)
+      → FragmentSays f bytes r
+  says-found bytes r h =
+      let found = lore-carries f lore (shape-sound f shape sound) taught
+      (λ e g w. FragmentFinds (Reads (shape .names) (lifted e g w) mostTags bytes) (r .answer) (r .summary)) h in
+      answers-found f bytes (shape-sound f shape sound) (r .answer) (r .summary) (rw (names-are f shape sound) at found)
 
-    module _ (r : FragmentReply) (i : ℕ) where
-      pub says-no-tag : p ≡ progress.NotATag i → (r .answer ≡ NotATag i) × (r .summary ≡ zeros) → FragmentSays f bytes r
-      says-no-tag d a = says-answer f bytes r (NotATag i) a (shape-sound f shape sound, under _ (rw d at read), refl)
-
-      pub says-mismatch : p ≡ progress.Mismatch i → (r .answer ≡ Mismatch i) × (r .summary ≡ zeros) → FragmentSays f bytes r
-      says-mismatch d a = says-answer f bytes r (Mismatch i) a (shape-sound f shape sound, under _ (rw d at read), refl)
-
-      pub says-deep : p ≡ progress.TooDeep i → (r .answer ≡ TooDeep i) × (r .summary ≡ zeros) → FragmentSays f bytes r
-      says-deep d a = says-answer f bytes r (TooDeep i) a (shape-sound f shape sound, under _ (rw d at read), refl)
-
-pub ruleset fragment-turns = (
-  read-is,
-  states-few,
-  rules-below,
-  ends-below,
-  schooled,
-  says-summarised,
-  says-no-tag,
-  says-mismatch,
-  says-deep,
-  needs,
-)
+pub ruleset fragment-turns = (read-is, taught-lore, says-found, says-bad, needs)

@@ -2,35 +2,38 @@
 -- its refusal, is the limit of the join of the two forms. Assumes nothing.
 use mathlib.Core.Path.{_≡_, refl, sym, _∙_}
 use mathlib.Core.List.{List}
-use Prim.Native.Nat.{ℕ, _+_, _*_, _≤_}
+use Prim.Native.Nat.{ℕ}
 use lib.ListN.{length}
 use borrow.Author.Needs.{needs}
+use Rattle.words.specs.Reader.{reduced, limit, join}
 use Rattle.words.proofs.LimitLaws.{Answers, limit-iff}
-use Rattle.hedge.specs.Operations.{relations}
-use Rattle.template.specs.Layout.{states, partOf, schemaRules, endingStates}
+use Rattle.pieces.specs.Pieces.{mostTags, piecesLong, lifted}
 use Rattle.template.specs.Order.{IsSound, reading}
 use Rattle.template.specs.declared.Reading.the-variants.{Sound, Bad}
 use Rattle.template.specs.declared.Shape.{Shape}
-use Rattle.form.specs.Held.{Holds}
+use Rattle.template.proofs.ShapeLaws.{shape-sound}
+use Rattle.form.specs.Held.{summaryOf, formOf, lastOf, Holds}
 use Rattle.form.specs.Steps.{Stepped, outcome, after-form}
+use Rattle.form.specs.declared.Counts.{Counts}
 use Rattle.form.specs.declared.Step.{Step}
 use Rattle.form.specs.declared.Step.the-variants as step
+use Rattle.form.specs.declared.Summary.{Summary}
+use Rattle.form.proofs.TurnLaws.{kept-holds}
 use Rattle.form.proofs.FormLaws.{form-limit}
-use Rattle.summary.specs.declared.Summary.{Summary}
+use Rattle.schema.specs.Schemas.{binoidOf, LoreOf}
+use Rattle.schema.proofs.SchemaLaws.{lore-carries}
 use Rattle.summary.specs.declared.JoinAnswer.{JoinAnswer}
 use Rattle.summary.specs.declared.JoinAnswer.the-variants.{Joined, BadFile, NoSummary, Mismatch, TooDeep}
 use Rattle.summary.specs.declared.JoinReply.{JoinReply}
 use Rattle.summary.specs.Packing.{zeros}
-use Rattle.template.specs.Schemas.{binoidOf}
 use Rattle.summary.specs.Joins.{SummaryUnder, BothSummaries, outcomeOf, JoinAnswers, JoinSays}
 use Rattle.summary.proofs.PackingLaws.{holds-packs}
-use Rattle.template.proofs.ShapeLaws.{shape-sound, states-are, states-few, rules-are, endings-are}
-use Rattle.summary.proofs.ShapeLaws.{schooled}
+use Rattle.summary.proofs.FragmentLaws.{taught-lore}
 
 -- a summary in the arrays
 
-pub holds-summary : (f : List ℕ) (s : Summary) → length (s .names) ≡ 16 → length (s .relations) ≡ 17 → SummaryUnder f s
-    → Holds (s .ends) (s .starts) (s .names) (s .relations)
+pub holds-summary : (f : List ℕ) (s : Summary) → length (s .names) ≡ mostTags → length (s .values) ≡ piecesLong → SummaryUnder f s
+    → Holds s
 holds-summary f s l m h = record { names-long = l; values-long = m; room = h .few; unused = h .unused }
 
 -- a reply that says why it refused
@@ -51,37 +54,27 @@ module _ (f : List ℕ) (left right : Summary) (r : JoinReply) where
 
 -- what joining leaves
 
-module _ (f : List ℕ) (shape : Shape) (sound : reading f ≡ Sound shape) (q : ℕ) (h : q ≡ shape .states) (schema endings : List ℕ)
-    (hs : schema ≡ partOf f (16 + 4 * shape .templates) (4 * shape .schema))
-    (he : endings ≡ partOf f (16 + 4 * shape .templates + 4 * shape .schema) (shape .endings))
+module _ (f : List ℕ) (shape : Shape) (sound : reading f ≡ Sound shape) (lore : List ℕ) (taught : LoreOf f lore)
     (left right : Summary) (hl : SummaryUnder f left) (hr : SummaryUnder f right) (t : Step) (names values : List ℕ)
-    (stepped : Stepped t names values (after-form q schema endings (left .ends) (left .starts) (left .names) (left .relations)
-    (right .ends) (right .names) (right .relations) (right .ends + right .starts))) where
-  joined-limit : Answers 16 (outcomeOf f left right) (outcome t names values)
+    (stepped : Stepped t names values (after-form lore left right)) where
+  joined-limit : Answers mostTags (outcomeOf f left right) (outcome t names values)
   joined-limit =
-      let few : left .ends + left .starts ≤ 16 = hl .few in
-      let e = form-limit (states f) (schemaRules f) (endingStates f) (left .ends) (left .starts) (left .names) (left .relations)
-      (right .ends) (right .names) (right .relations) (right .ends + right .starts) few in
-      let d : outcome t names values
-      ≡ after-form (states f) (schemaRules f) (endingStates f) (left .ends) (left .starts) (left .names) (left .relations)
-      (right .ends) (right .names) (right .relations) (right .ends + right .starts) =
-      rw (
-        states-are f shape sound q h,
-        rules-are f shape sound q h schema endings hs he,
-        endings-are f shape sound q h schema endings hs he,
-      ) at stepped .says in
-      limit-iff (binoidOf f) 16 (outcomeOf f left right) (outcome t names values) .0 (sym e ∙ sym d)
+      let e = stepped .says ∙ form-limit lore left right (hl .few) in
+      let d = lore-carries f lore (shape-sound f shape sound) taught
+      (λ u g w.
+      outcome t names values
+      ≡ limit (lifted u g w) mostTags (join (lifted u g w) (reduced (formOf left) (lastOf left)) (formOf right) (lastOf right))) e in
+      limit-iff (binoidOf f) mostTags (outcomeOf f left right) (outcome t names values) .0 (sym d)
 
   both-summaries : BothSummaries f left right
   both-summaries = (shape-sound f shape sound, hl, hr)
 
-  pub joined-kept : (e s : ℕ) → t ≡ step.Kept e s
-      → JoinAnswers f left right Joined (record { ends = e; starts = s; names = names; relations = values })
+  pub joined-kept : (c : Counts) → t ≡ step.Kept c → JoinAnswers f left right Joined (summaryOf c names values)
   unfolding outcome
-  joined-kept e s d =
+  joined-kept c d =
       let (o, few) = rw d at joined-limit in
-      let k = rw d at stepped .tidy in
-      (both-summaries, (_, _, o, few, holds-packs e s names values k))
+      let k = kept-holds t names values _ c stepped d in
+      (both-summaries, (_, _, o, few, holds-packs (summaryOf c names values) k))
 
   module _ (r : JoinReply) where
     pub joined-differ : (a b : ℕ) → t ≡ step.Mismatch a b → (r .answer ≡ Mismatch) × (r .summary ≡ zeros) → JoinSays f left right r
@@ -92,4 +85,4 @@ module _ (f : List ℕ) (shape : Shape) (sound : reading f ≡ Sound shape) (q :
     unfolding outcome
     joined-deep d h = join-answer f left right r TooDeep h (both-summaries, rw d at joined-limit, refl)
 
-pub ruleset join-turns = (states-few, schooled, joined-kept, needs)
+pub ruleset join-turns = (taught-lore, joined-kept, needs)

@@ -14,33 +14,37 @@ use Rattle.words.proofs.ReducedLaws.{reduced-good}
 use Rattle.words.proofs.ReadLaws.{reduced-unique}
 use Rattle.words.proofs.MismatchLaws.{never-both}
 use Rattle.words.proofs.JoinLaws.{join-good, join-reduced, join-differ}
-use Rattle.template.specs.Layout.{names, states}
+use Rattle.pieces.specs.declared.Piece.{Piece}
+use Rattle.pieces.specs.Pieces.{mostTags}
+use Rattle.template.specs.Layout.{nameCount, states}
 use Rattle.template.specs.Order.{IsSound}
 use Rattle.reader.specs.Reads.{Spelled}
 use Rattle.reader.proofs.ReadsLaws.{reads-finding}
-use Rattle.summary.specs.declared.Summary.{Summary}
+use Rattle.form.specs.Held.{formOf, lastOf}
+use Rattle.form.specs.declared.Summary.{Summary}
 use Rattle.summary.specs.declared.FragmentAnswer.the-variants.{Summarised}
 use Rattle.summary.specs.declared.FragmentReply.{FragmentReply}
 use Rattle.summary.specs.declared.JoinAnswer.{JoinAnswer}
 use Rattle.summary.specs.declared.JoinAnswer.the-variants.{Joined, BadFile, NoSummary, Mismatch, TooDeep}
 use Rattle.summary.specs.declared.JoinReply.{JoinReply}
-use Rattle.summary.specs.Packing.{form, last, Packs}
-use Rattle.template.specs.Schemas.{binoidOf}
+use Rattle.summary.specs.Packing.{Packs}
+use Rattle.schema.specs.Schemas.{binoidOf}
 use Rattle.summary.specs.Fragments.{FragmentAnswers, FragmentSays}
 use Rattle.summary.specs.Joins.{SummaryUnder, JoinAnswers, JoinSays}
 use Rattle.summary.proofs.PackingLaws.{packs-own}
-use Rattle.template.proofs.ShapeLaws.{lawsOf, sound-not-bad}
+use Rattle.schema.proofs.SchemaLaws.{lawsOf}
+use Rattle.template.proofs.ShapeLaws.{sound-not-bad}
 use Rattle.summary.proofs.UniqueLaws.{packs-unique}
 use Rattle.summary.proofs.NamedLaws.{WordBelow, word-append, spelled-below, reduced-below, joined-below}
 use Rattle.summary.proofs.PlaceLaws.{packed-summary, summary-below, summary-good}
 
 -- the struct is the summary of the word, whose names are the file's: it packs the word's reduced form
 pub record SummaryOf (f : List ℕ) (w : List Tag) (s : Summary) : Type 0 where
-  pub below : WordBelow (names f) w
-  pub reduces : Reduced (binoidOf f) w (form s) (last s)
-  pub packs : Packs s (form s) (last s)
+  pub below : WordBelow (nameCount f) w
+  pub reduces : Reduced (binoidOf f) w (formOf s) (lastOf s)
+  pub packs : Packs s (formOf s) (lastOf s)
 
-pub summary-of : (f : List ℕ) {w : List Tag} {s : Summary} {t : Stack ℕ} {c : ℕ} → WordBelow (names f) w → Reduced (binoidOf f) w t c
+pub summary-of : (f : List ℕ) {w : List Tag} {s : Summary} {t : Stack Piece} {c : Piece} → WordBelow (nameCount f) w → Reduced (binoidOf f) w t c
     → Packs s t c → SummaryOf f w s
 summary-of f b r p = record { below = b; reduces = rw (p .form-is, p .last-is) r; packs = packs-own p }
 
@@ -55,7 +59,7 @@ module _ (f : List ℕ) (sound : IsSound f) where
   pub summary-of-under : {w : List Tag} {s : Summary} → SummaryOf f w s → SummaryUnder f s
   summary-of-under {s = s} p =
       let (g, h) = reduced-good (binoidOf f) (lawsOf f sound) (p .reduces) in
-      packed-summary (names f) (states f) s (p .packs) (reduced-below (names f) (binoidOf f) (p .reduces) (p .below)) g h
+      packed-summary (nameCount f) (states f) s (p .packs) (reduced-below (nameCount f) (binoidOf f) (p .reduces) (p .below)) g h
 
 -- ---- fragments
 
@@ -67,11 +71,11 @@ module _ (f bytes : List ℕ) (r : FragmentReply) (says : FragmentSays f bytes r
   fragment-sound = summarised .0
 
   -- the reply holds the summary of the word that the bytes spell
-  pub fragment-summary-of : (w : List Tag) × Spelled (names f) bytes w × SummaryOf f w (r .summary)
+  pub fragment-summary-of : (w : List Tag) × Spelled (nameCount f) bytes w × SummaryOf f w (r .summary)
   fragment-summary-of =
       let (sound, (t, c, read, p)) = summarised in
-      let (all, formed) = reads-finding (names f) (binoidOf f) 16 read in
-      (formed .word, formed .spelled, summary-of f (spelled-below (names f) (formed .spelled)) (formed .reduced) p)
+      let (all, formed) = reads-finding (nameCount f) (binoidOf f) mostTags read in
+      (formed .word, formed .spelled, summary-of f (spelled-below (nameCount f) (formed .spelled)) (formed .reduced) p)
 
   pub fragment-under : SummaryUnder f (r .summary)
   fragment-under = summary-of-under f fragment-sound (fragment-summary-of .2)
@@ -82,12 +86,12 @@ module _ (f bytes : List ℕ) (r : FragmentReply) (says : FragmentSays f bytes r
 module _ (f : List ℕ) (left right : Summary) where
   joined-under-file : (s : Summary) → JoinAnswers f left right Joined s → SummaryUnder f s
   joined-under-file s ((sound, l, r), (t, c, o, k, p)) =
-      let (gl, hl) = summary-good (names f) (states f) left l in
-      let (gr, hr) = summary-good (names f) (states f) right r in
-      let (g, h) = join-good (binoidOf f) (lawsOf f sound) (form left) (form right) t (last left) (last right) c gl hl gr hr o in
-      packed-summary (names f) (states f) s p
-      (joined-below (names f) (binoidOf f) (form left) (form right) t (last left) (last right) c
-      (summary-below (names f) (states f) left l) (summary-below (names f) (states f) right r) o)
+      let (gl, hl) = summary-good (nameCount f) (states f) left l in
+      let (gr, hr) = summary-good (nameCount f) (states f) right r in
+      let (g, h) = join-good (binoidOf f) (lawsOf f sound) (formOf left) (formOf right) t (lastOf left) (lastOf right) c gl hl gr hr o in
+      packed-summary (nameCount f) (states f) s p
+      (joined-below (nameCount f) (binoidOf f) (formOf left) (formOf right) t (lastOf left) (lastOf right) c
+      (summary-below (nameCount f) (states f) left l) (summary-below (nameCount f) (states f) right r) o)
       g h
 
   pub joined-under : (r : JoinReply) → JoinSays f left right r → r .answer ≡ Joined → SummaryUnder f (r .summary)
@@ -97,10 +101,10 @@ module _ (f : List ℕ) (left right : Summary) where
 module _ (f : List ℕ) (sound : IsSound f) {u v : List Tag} {left right : Summary} (p : SummaryOf f u left) (q : SummaryOf f v right) where
   -- the two in a row reduce to at most 16 tags, or to more
   abbrev pub Fits : Type 0
-  Fits = (t : Stack ℕ) × (c : ℕ) × Reduced (binoidOf f) (u ++ v) t c × (tags t ≤ 16)
+  Fits = (t : Stack Piece) × (c : Piece) × Reduced (binoidOf f) (u ++ v) t c × (tags t ≤ mostTags)
 
   abbrev pub Deep : Type 0
-  Deep = (t : Stack ℕ) × (c : ℕ) × Reduced (binoidOf f) (u ++ v) t c × (16 < tags t)
+  Deep = (t : Stack Piece) × (c : Piece) × Reduced (binoidOf f) (u ++ v) t c × (mostTags < tags t)
 
   abbrev Means : JoinAnswer → Summary → Type 0
   Means Joined s = Fits × SummaryOf f (u ++ v) s
@@ -112,7 +116,7 @@ module _ (f : List ℕ) (sound : IsSound f) {u v : List Tag} {left right : Summa
   join-means : (a : JoinAnswer) (s : Summary) → JoinAnswers f left right a s → Means a s
   join-means Joined s (h, (t, c, o, k, z)) =
       let r = join-reduced (binoidOf f) (lawsOf f sound) (p .reduces) (q .reduces) t c .0 o in
-      ((t, c, r, k), summary-of f (word-append (names f) u v (p .below) (q .below)) r z)
+      ((t, c, r, k), summary-of f (word-append (nameCount f) u v (p .below) (q .below)) r z)
   join-means (BadFile i) s (e, z) = sound-not-bad f i sound e
   join-means NoSummary s (h, n, z) = n (summary-of-under f sound p) (summary-of-under f sound q)
   join-means Mismatch s (h, o, z) = join-differ (binoidOf f) (lawsOf f sound) (p .reduces) (q .reduces) .0 o
@@ -124,10 +128,10 @@ module _ (f : List ℕ) (sound : IsSound f) {u v : List Tag} {left right : Summa
   fits-or-deep : Fits → Deep → ⊥
   fits-or-deep (t, c, r, k) (s, d, m, l) =
       let e : t ≡ s = reduced-unique (binoidOf f) (lawsOf f sound) r m .0 in
-      let j : tags s ≤ 16 = subst (λ t. tags t ≤ 16) e k in
+      let j : tags s ≤ mostTags = subst (λ t. tags t ≤ mostTags) e k in
       omega arith
 
-  clash-or-reduced : {t : Stack ℕ} {c : ℕ} → Mismatched (u ++ v) → Reduced (binoidOf f) (u ++ v) t c → ⊥
+  clash-or-reduced : {t : Stack Piece} {c : Piece} → Mismatched (u ++ v) → Reduced (binoidOf f) (u ++ v) t c → ⊥
   clash-or-reduced m r = never-both (binoidOf f) (lawsOf f sound) r m
 
   means-joined : (a : JoinAnswer) (s : Summary) → Means a s → Fits → a ≡ Joined

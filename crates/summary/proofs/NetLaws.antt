@@ -10,12 +10,13 @@ use lib.IntN.{ℤ, pos, negsuc, negℤ, _+ℤ_, _-ℤ_}
 use Rattle.words.specs.Reduced.{net}
 use Rattle.words.proofs.DepthLaws.{net-join}
 use Rattle.form.proofs.HeldLaws.{net-held}
-use Rattle.summary.specs.declared.Summary.{Summary}
+use Rattle.pieces.specs.Pieces.{mostTags}
+use Rattle.form.specs.Held.{formOf, lastOf}
+use Rattle.form.specs.declared.Summary.{Summary}
 use Rattle.summary.specs.declared.JoinAnswer.the-variants.{Joined}
 use Rattle.summary.specs.declared.JoinReply.{JoinReply}
 use Rattle.summary.specs.declared.DepthReply.the-variants.{Net}
-use Rattle.summary.specs.Packing.{form, last}
-use Rattle.template.specs.Schemas.{binoidOf}
+use Rattle.schema.specs.Schemas.{binoidOf}
 use Rattle.summary.specs.Joins.{JoinAnswers, JoinSays, DepthSays}
 use Rattle.summary.proofs.SignedLaws.{difference-up, difference-down}
 
@@ -40,31 +41,31 @@ module _ (a b n : ℕ) where
 -- ---- the net depth of a summary
 
 module _ (f : List ℕ) (s : Summary) (z : ℤ) (says : DepthSays f s (Net z)) where
-  pub depth-few : s .ends + s .starts ≤ 16
+  pub depth-few : s .counts .ends + s .counts .starts ≤ mostTags
   depth-few = says .1 .few
 
-  pub depth-counts : z ≡ pos (s .starts) -ℤ pos (s .ends)
-  depth-counts = says .2 ∙ net-held (s .ends) (s .starts) (s .names) (s .relations)
+  pub depth-counts : z ≡ pos (s .counts .starts) -ℤ pos (s .counts .ends)
+  depth-counts = says .2 ∙ net-held (s .counts .ends) (s .counts .starts) (s .names) (s .values)
 
-  pub depth-most : (z ≡ pos 16) ↔ ((s .starts ≡ 16) × (s .ends ≡ 0))
+  pub depth-most : (z ≡ pos 16) ↔ ((s .counts .starts ≡ 16) × (s .counts .ends ≡ 0))
   depth-most =
       let h = depth-few in
-      let i = difference-is (s .starts) (s .ends) 16 in (
+      let i = difference-is (s .counts .starts) (s .counts .ends) 16 in (
         λ e. let d = i .0 (sym depth-counts ∙ e) in (omega arith, omega arith),
         λ e. let (p, q) = e in depth-counts ∙ i .1 (omega arith),
       )
 
-  pub depth-least : (z ≡ negℤ (pos 16)) ↔ ((s .ends ≡ 16) × (s .starts ≡ 0))
+  pub depth-least : (z ≡ negℤ (pos 16)) ↔ ((s .counts .ends ≡ 16) × (s .counts .starts ≡ 0))
   depth-least =
       let h = depth-few in
-      let i = difference-below (s .starts) (s .ends) 15 in (
+      let i = difference-below (s .counts .starts) (s .counts .ends) 15 in (
         λ e. let d = i .0 (sym depth-counts ∙ e) in (omega arith, omega arith),
         λ e. let (p, q) = e in depth-counts ∙ i .1 (omega arith),
       )
 
-  pub depth-none : (z ≡ pos 0) ↔ (s .starts ≡ s .ends)
+  pub depth-none : (z ≡ pos 0) ↔ (s .counts .starts ≡ s .counts .ends)
   depth-none =
-      let i = difference-is (s .starts) (s .ends) 0 in (
+      let i = difference-is (s .counts .starts) (s .counts .ends) 0 in (
         λ e. let d = i .0 (sym depth-counts ∙ e) in omega arith,
         λ e. depth-counts ∙ i .1 (omega arith),
       )
@@ -72,10 +73,10 @@ module _ (f : List ℕ) (s : Summary) (z : ℤ) (says : DepthSays f s (Net z)) w
 -- ---- the net depth of a join
 
 module _ (f : List ℕ) (left right : Summary) where
-  net-of-joined : (s : Summary) → JoinAnswers f left right Joined s → net (form s) ≡ net (form left) +ℤ net (form right)
+  net-of-joined : (s : Summary) → JoinAnswers f left right Joined s → net (formOf s) ≡ net (formOf left) +ℤ net (formOf right)
   net-of-joined s (h, (t, c, o, k, p)) =
-      ap net (p .form-is) ∙ net-join (binoidOf f) (form left) (form right) t (last left) (last right) c o
+      ap net (p .form-is) ∙ net-join (binoidOf f) (formOf left) (formOf right) t (lastOf left) (lastOf right) c o
 
   pub net-joined : (r : JoinReply) → JoinSays f left right r → r .answer ≡ Joined
-      → net (form (r .summary)) ≡ net (form left) +ℤ net (form right)
+      → net (formOf (r .summary)) ≡ net (formOf left) +ℤ net (formOf right)
   net-joined r says e = net-of-joined (r .summary) (subst (λ a. JoinAnswers f left right a (r .summary)) e says)

@@ -1,22 +1,23 @@
 -- The test of a struct, place by place, says exactly that it is a summary (specs/Packing.antt). A place in use passes by the choice's
--- first arm, another by its second; behind the arrays' ends every place is 0. And what the arrays of a form hold is packed by the struct
--- of them. Assumes nothing.
-use mathlib.Core.Path.{_≡_, refl, sym, _∙_}
+-- first arm, another by its second; behind the arrays' ends every place is 0. A piece that the test lets through is small, since it adds
+-- no bit to a small number. And a struct that holds a form packs it. Assumes nothing.
+use mathlib.Core.Path.{_≡_, refl, sym, ap, _∙_}
 use mathlib.Core.Bool.{Bool, true, false, false≢true, not}
 use mathlib.Core.List.{List}
 use mathlib.Core.Logic.{_↔_}
-use Prim.Native.Nat.{ℕ, _+_, _-_, _≤_, _<_}
+use Prim.Native.Nat.{ℕ, _-_, _≤_, _<_}
 use native.Mathlib.Decide.{decLt, decLe}
 use native.Mathlib.Omega.{arith}
 use lib.ListN.{length, getD, List·getD-eq-default}
 use borrow.Author.Tests.{lt-ltb, le-ltb, le-leb, lt-leb, ltb-true, eqb-true, not-true, not-false}
 use Rattle.words.specs.Reduced.{Stack}
-use Rattle.hedge.specs.Relation.{Within}
-use Rattle.hedge.specs.Operations.{full}
-use Rattle.hedge.proofs.CoverLaws.{covers-within}
-use Rattle.form.specs.Held.{stackOf, Holds}
-use Rattle.summary.specs.declared.Summary.{Summary}
-use Rattle.summary.specs.Packing.{count, form, last, Packs, IsSummary, every, nameFits, valueFits, Small}
+use Rattle.hedge.specs.Schema.{mostStates}
+use Rattle.pieces.specs.declared.Piece.{Piece}
+use Rattle.pieces.specs.Pieces.{mostTags, mostPieces, piecesLong, piece, zeroPiece, pieceAt, PieceWithin, fitsIn}
+use Rattle.pieces.proofs.PieceLaws.{piece-past, fits-within, none-is}
+use Rattle.form.specs.Held.{tagCount, formOf, lastOf, Holds}
+use Rattle.form.specs.declared.Summary.{Summary}
+use Rattle.summary.specs.Packing.{Packs, IsSummary, every, nameFits, pieceFits}
 use Rattle.summary.proofs.FitLaws.{every-in, every-out}
 
 -- places behind the first n, and behind an array's end
@@ -39,16 +40,16 @@ module _ (A n : ℕ) (names : List ℕ) where
   unfolding nameFits
   name-unused k l = (λ t. eqb-true (getD names k 0) 0 (rw (le-ltb k n l) at t), λ h. rw (le-ltb k n l, h))
 
-  pub names-pass : length names ≡ 16 → n ≤ 16
-      → (every 16 (nameFits A n names) ≡ true)
+  pub names-pass : length names ≡ mostTags → n ≤ mostTags
+      → (every mostTags (nameFits A n names) ≡ true)
       ↔ (((k : ℕ) → k < n → getD names k 0 < A) × ((k : ℕ) → n ≤ k → getD names k 0 ≡ 0))
   names-pass e few = (
     λ t.
-        let each = every-out 16 (nameFits A n names) t in (
+        let each = every-out mostTags (nameFits A n names) t in (
           λ k l. name-used k l .0 (each k (omega arith)),
-          zero-behind n 16 names e (λ k l h. name-unused k l .0 (each k h)),
+          zero-behind n mostTags names e (λ k l h. name-unused k l .0 (each k h)),
         ),
-    λ p. every-in 16 (nameFits A n names) (λ k h. at p k (decLt k n)),
+    λ p. every-in mostTags (nameFits A n names) (λ k h. at p k (decLt k n)),
   )
     where
       at : ((k : ℕ) → k < n → getD names k 0 < A) × ((k : ℕ) → n ≤ k → getD names k 0 ≡ 0) → (k : ℕ) → Dec (k < n)
@@ -56,35 +57,42 @@ module _ (A n : ℕ) (names : List ℕ) where
       at (p, q) k (yes l) = name-used k l .1 (p k l)
       at (p, q) k (no l) = name-unused k (omega arith) .1 (q k (omega arith))
 
--- ---- the relations
+-- ---- the pieces
 
-module _ (q n : ℕ) (values : List ℕ) (small : Small values) where
-  value-used : (k : ℕ) → k ≤ n → (valueFits (full 8 q) n values k ≡ true) ↔ Within 8 q (getD values k 0)
-  unfolding valueFits
-  value-used k l =
-      let c = covers-within 8 q (getD values k 0) (small k) in
+module _ (q n : ℕ) (few : q ≤ mostStates) (values : List ℕ) where
+  piece-used : (k : ℕ) → k ≤ n → (pieceFits q n values k ≡ true) ↔ PieceWithin q (pieceAt values k)
+  unfolding pieceFits
+  piece-used k l =
+      let c = fits-within q (pieceAt values k) in
       (λ t. c .0 (rw (le-leb k n l) at t), λ h. rw (le-leb k n l) (c .1 h))
 
-  value-unused : (k : ℕ) → n < k → (valueFits (full 8 q) n values k ≡ true) ↔ (getD values k 0 ≡ 0)
-  unfolding valueFits
-  value-unused k l = (λ t. eqb-true (getD values k 0) 0 (rw (lt-leb k n l) at t), λ h. rw (lt-leb k n l, h))
+  piece-unused : (k : ℕ) → n < k → (pieceFits q n values k ≡ true) ↔ (pieceAt values k ≡ zeroPiece)
+  unfolding pieceFits
+  piece-unused k l =
+      let c = none-is (pieceAt values k) in
+      (λ t. c .0 (rw (lt-leb k n l) at t), λ h. rw (lt-leb k n l) (c .1 h))
 
-  pub values-pass : length values ≡ 17 → n ≤ 16
-      → (every 17 (valueFits (full 8 q) n values) ≡ true)
-      ↔ (((k : ℕ) → k ≤ n → Within 8 q (getD values k 0)) × ((k : ℕ) → n < k → getD values k 0 ≡ 0))
-  values-pass e few = (
+  pub pieces-pass : length values ≡ piecesLong → n ≤ mostTags
+      → (every mostPieces (pieceFits q n values) ≡ true)
+      ↔ (((k : ℕ) → k ≤ n → PieceWithin q (pieceAt values k)) × ((k : ℕ) → n < k → pieceAt values k ≡ zeroPiece))
+  pieces-pass e h = (
     λ t.
-        let each = every-out 17 (valueFits (full 8 q) n values) t in (
-          λ k l. value-used k l .0 (each k (omega arith)),
-          λ k l. zero-behind (n + 1) 17 values e (λ k l h. value-unused k (omega arith) .0 (each k h)) k (omega arith),
+        let each = every-out mostPieces (pieceFits q n values) t in (
+          λ k l. piece-used k l .0 (each k (omega arith)),
+          λ k l. behind each k l (decLe k mostTags),
         ),
-    λ p. every-in 17 (valueFits (full 8 q) n values) (λ k h. at p k (decLe k n)),
+    λ p. every-in mostPieces (pieceFits q n values) (λ k l. at p k (decLe k n)),
   )
     where
-      at : ((k : ℕ) → k ≤ n → Within 8 q (getD values k 0)) × ((k : ℕ) → n < k → getD values k 0 ≡ 0) → (k : ℕ) → Dec (k ≤ n)
-          → valueFits (full 8 q) n values k ≡ true
-      at (p, z) k (yes l) = value-used k l .1 (p k l)
-      at (p, z) k (no l) = value-unused k (omega arith) .1 (z k (omega arith))
+      behind : ((k : ℕ) → k < mostPieces → pieceFits q n values k ≡ true) → (k : ℕ) → n < k → Dec (k ≤ mostTags)
+          → pieceAt values k ≡ zeroPiece
+      behind each k l (yes m) = piece-unused k l .0 (each k (omega arith))
+      behind each k l (no m) = piece-past values k e (omega arith)
+
+      at : ((k : ℕ) → k ≤ n → PieceWithin q (pieceAt values k)) × ((k : ℕ) → n < k → pieceAt values k ≡ zeroPiece) → (k : ℕ) → Dec (k ≤ n)
+          → pieceFits q n values k ≡ true
+      at (p, z) k (yes l) = piece-used k l .1 (p k l)
+      at (p, z) k (no l) = piece-unused k (omega arith) .1 (z k (omega arith))
 
 -- ---- the answers of the test
 
@@ -92,50 +100,45 @@ never-passed : {P : Type 0} → (P → ⊥) → (false ≡ true) ↔ P
 never-passed n = (λ e. absurd (false≢true e), λ p. absurd (n p))
 
 module _ (A q : ℕ) (s : Summary) where
-  pub many-ends-fail : 16 < s .ends → (false ≡ true) ↔ IsSummary A q s
+  pub many-ends-fail : mostTags < s .counts .ends → (false ≡ true) ↔ IsSummary A q s
   many-ends-fail h = never-passed (λ p. omega (arith, p .few))
 
-  pub many-tags-fail : s .ends ≤ 16 → 16 - s .ends < s .starts → (false ≡ true) ↔ IsSummary A q s
+  pub many-tags-fail : s .counts .ends ≤ mostTags → mostTags - s .counts .ends < s .counts .starts → (false ≡ true) ↔ IsSummary A q s
   many-tags-fail h l = never-passed (λ p. omega (arith, p .few))
 
-  module _ (names-room : length (s .names) ≡ 16) (few : count s ≤ 16) where
-    pub names-fail : (t : Bool) → t ≡ every 16 (nameFits A (count s) (s .names)) → not t ≡ true → (false ≡ true) ↔ IsSummary A q s
+  module _ (names-room : length (s .names) ≡ mostTags) (few : tagCount (s .counts) ≤ mostTags) where
+    pub names-fail : (t : Bool) → t ≡ every mostTags (nameFits A (tagCount (s .counts)) (s .names)) → not t ≡ true
+        → (false ≡ true) ↔ IsSummary A q s
     names-fail t e f =
         never-passed
-        (λ p. false≢true (sym (not-true t f) ∙ e ∙ names-pass A (count s) (s .names) names-room few .1 (p .named, p .unused .names-zero)))
+        (λ p.
+        let h = names-pass A (tagCount (s .counts)) (s .names) names-room few .1 (p .named, p .unused .names-zero) in
+        false≢true (sym (not-true t f) ∙ e ∙ h))
 
-    pub summary-pass : length (s .relations) ≡ 17 → (t r : Bool) → t ≡ every 16 (nameFits A (count s) (s .names)) → not t ≡ false
-        → (all : ℕ) → all ≡ full 8 q → r ≡ every 17 (valueFits all (count s) (s .relations)) → Small (s .relations)
+    pub summary-pass : length (s .values) ≡ piecesLong → q ≤ mostStates
+        → (t r : Bool) → t ≡ every mostTags (nameFits A (tagCount (s .counts)) (s .names)) → not t ≡ false
+        → r ≡ every mostPieces (pieceFits q (tagCount (s .counts)) (s .values))
         → (r ≡ true) ↔ IsSummary A q s
-    summary-pass relations-room t r et e all ea er small =
-        let (named, names-zero) = names-pass A (count s) (s .names) names-room few .0 (sym et ∙ not-false t e) in
-        let values = values-pass q (count s) (s .relations) small relations-room few in (
+    summary-pass values-room least t r et e er =
+        let (named, names-zero) = names-pass A (tagCount (s .counts)) (s .names) names-room few .0 (sym et ∙ not-false t e) in
+        let pieces = pieces-pass q (tagCount (s .counts)) least (s .values) values-room few in (
           λ h.
-              let (within, relations-zero) = values .0 (rw ea at (sym er ∙ h)) in
+              let (within, values-zero) = pieces .0 (sym er ∙ h) in
               record {
                 few = few;
                 named = named;
                 within = within;
-                unused = record { names-zero = names-zero; relations-zero = relations-zero };
+                unused = record { names-zero = names-zero; values-zero = values-zero };
               },
-          λ p. er ∙ rw ea (values .1 (p .within, p .unused .relations-zero)),
+          λ p. er ∙ pieces .1 (p .within, p .unused .values-zero),
         )
 
 -- ---- what is packed
 
--- the form that the arrays hold
-pub holds-packs : (e s : ℕ) (names values : List ℕ) → Holds e s names values
-    → Packs (record { ends = e; starts = s; names = names; relations = values }) (stackOf e names values (e + s)) (getD values (e + s) 0)
-holds-packs e s names values h =
-    record {
-      names-room = h .names-long;
-      relations-room = h .values-long;
-      few = h .room;
-      form-is = refl;
-      last-is = refl;
-      unused = h .unused;
-    }
+-- the form that a summary holds
+pub holds-packs : (s : Summary) → Holds s → Packs s (formOf s) (lastOf s)
+holds-packs s h = record { holds = h; form-is = refl; last-is = refl }
 
 -- a struct packs its own form
-pub packs-own : {s : Summary} {t : Stack ℕ} {c : ℕ} → Packs s t c → Packs s (form s) (last s)
-packs-own {s} p = rw (← (p .form-is), ← (p .last-is)) at p
+pub packs-own : {s : Summary} {t : Stack Piece} {c : Piece} → Packs s t c → Packs s (formOf s) (lastOf s)
+packs-own {s} p = holds-packs s (p .holds)

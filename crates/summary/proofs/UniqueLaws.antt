@@ -8,13 +8,15 @@ use Prim.Native.Nat.{ℕ, _≤_, _<_}
 use native.Mathlib.Omega.{arith}
 use Rattle.words.specs.Reduced.{Stack, tags}
 use Rattle.words.specs.Reader.{Outcome, reduced, differ}
-use Rattle.template.specs.Layout.{names}
+use Rattle.pieces.specs.declared.Piece.{Piece}
+use Rattle.pieces.specs.Pieces.{mostTags}
+use Rattle.template.specs.Layout.{nameCount}
 use Rattle.template.specs.Order.{IsSound, reading}
 use Rattle.template.specs.declared.Reading.the-variants.{Bad}
 use Rattle.form.proofs.PackLaws.{pack-unique}
 use Rattle.reader.specs.Reads.{Found, whole, refused, no-tag, mismatch, too-many}
 use Rattle.reader.proofs.ReadsLaws.{reads-unique}
-use Rattle.summary.specs.declared.Summary.{Summary}
+use Rattle.form.specs.declared.Summary.{Summary}
 use Rattle.summary.specs.declared.FragmentAnswer.{FragmentAnswer}
 use Rattle.summary.specs.declared.FragmentAnswer.the-variants as fragment
 use Rattle.summary.specs.declared.FragmentReply.{FragmentReply}
@@ -24,19 +26,17 @@ use Rattle.summary.specs.declared.JoinReply.{JoinReply}
 use Rattle.summary.specs.declared.DepthReply.{DepthReply}
 use Rattle.summary.specs.declared.DepthReply.the-variants as depth
 use Rattle.summary.specs.Packing.{Packs, zeros}
-use Rattle.template.specs.Schemas.{binoidOf}
+use Rattle.schema.specs.Schemas.{binoidOf}
 use Rattle.summary.specs.Fragments.{ReadUnder, FragmentAnswers, FragmentSays}
 use Rattle.summary.specs.Joins.{SummaryUnder, outcomeOf, JoinAnswers, JoinSays, DepthSays}
-use Rattle.template.proofs.ShapeLaws.{lawsOf, sound-not-bad}
+use Rattle.schema.proofs.SchemaLaws.{lawsOf}
+use Rattle.template.proofs.ShapeLaws.{sound-not-bad}
 
 -- ---- one summary of a form, one place of a bad file
 
-pub packs-unique : {s s′ : Summary} {t : Stack ℕ} {c : ℕ} → Packs s t c → Packs s′ t c → s ≡ s′
+pub packs-unique : {s s′ : Summary} {t : Stack Piece} {c : Piece} → Packs s t c → Packs s′ t c → s ≡ s′
 packs-unique {s} {s′} p q =
-    let (e, d, n, v) = pack-unique (s .ends) (s .starts) (s′ .ends) (s′ .starts) (s .names) (s .relations) (s′ .names) (s′ .relations)
-    (p .form-is ∙ sym (q .form-is)) (p .last-is ∙ sym (q .last-is)) (p .unused) (q .unused) (p .names-room ∙ sym (q .names-room))
-    (p .relations-room ∙ sym (q .relations-room)) in
-    λ i. record { ends = e i; starts = d i; names = n i; relations = v i }
+    pack-unique s s′ (p .holds) (q .holds) (p .form-is ∙ sym (q .form-is)) (p .last-is ∙ sym (q .last-is))
 
 bad-unique : (f : List ℕ) (p q : ℕ) → reading f ≡ Bad p → reading f ≡ Bad q → p ≡ q
 bad-unique f p q e d = cc (sym e ∙ d)
@@ -44,13 +44,13 @@ bad-unique f p q e d = cc (sym e ∙ d)
 -- ---- fragments
 
 -- the reply's answer and summary are those of what reading found
-abbrev pub AnswersFound : Found ℕ → FragmentAnswer → Summary → Type 0
+abbrev pub AnswersFound : Found Piece → FragmentAnswer → Summary → Type 0
 AnswersFound (whole t c) a s = (a ≡ fragment.Summarised) × Packs s t c
 AnswersFound (refused no-tag i) a s = (a ≡ fragment.NotATag i) × (s ≡ zeros)
 AnswersFound (refused mismatch i) a s = (a ≡ fragment.Mismatch i) × (s ≡ zeros)
 AnswersFound (refused too-many i) a s = (a ≡ fragment.TooDeep i) × (s ≡ zeros)
 
-found-unique : (found : Found ℕ) (a a′ : FragmentAnswer) (s s′ : Summary) → AnswersFound found a s → AnswersFound found a′ s′
+found-unique : (found : Found Piece) (a a′ : FragmentAnswer) (s s′ : Summary) → AnswersFound found a s → AnswersFound found a′ s′
     → (a ≡ a′) × (s ≡ s′)
 found-unique (whole t c) a a′ s s′ (e, p) (d, q) = (e ∙ sym d, packs-unique p q)
 found-unique (refused no-tag i) a a′ s s′ (e, p) (d, q) = (e ∙ sym d, p ∙ sym q)
@@ -61,7 +61,7 @@ module _ (f bytes : List ℕ) where
   abbrev pub FragmentCase : FragmentAnswer → Summary → Type 0
   FragmentCase a s =
       ((p : ℕ) × (reading f ≡ Bad p) × (a ≡ fragment.BadFile p) × (s ≡ zeros))
-      ⊎ (IsSound f × ((found : Found ℕ) × ReadUnder f bytes found × AnswersFound found a s))
+      ⊎ (IsSound f × ((found : Found Piece) × ReadUnder f bytes found × AnswersFound found a s))
 
   pub fragment-case : (a : FragmentAnswer) (s : Summary) → FragmentAnswers f bytes a s → FragmentCase a s
   fragment-case fragment.Summarised s (h, (t, c, r, p)) = inr (h, (whole t c, r, (refl, p)))
@@ -77,7 +77,7 @@ module _ (f bytes : List ℕ) where
   fragment-case-unique a a′ s s′ (inr (h, x)) (inl (p, e, k, z)) = absurd (sound-not-bad f p h e)
   fragment-case-unique a a′ s s′ (inr (h, (x, r, p))) (inr (k, (y, t, q))) =
       found-unique y a a′ s s′
-      (subst (λ z. AnswersFound z a s) (reads-unique (names f) (binoidOf f) 16 (lawsOf f h) r t) p) q
+      (subst (λ z. AnswersFound z a s) (reads-unique (nameCount f) (binoidOf f) mostTags (lawsOf f h) r t) p) q
 
   pub fragment-unique : (r r′ : FragmentReply) → FragmentSays f bytes r → FragmentSays f bytes r′ → r ≡ r′
   fragment-unique r r′ p q =
@@ -88,12 +88,12 @@ module _ (f bytes : List ℕ) where
 -- ---- joins
 
 -- the reply's answer and summary are those of what joining gives
-abbrev pub AnswersOutcome : Outcome ℕ → JoinAnswer → Summary → Type 0
+abbrev pub AnswersOutcome : Outcome Piece → JoinAnswer → Summary → Type 0
 AnswersOutcome (reduced t c) a s =
-    ((tags t ≤ 16) × (a ≡ joined.Joined) × Packs s t c) ⊎ ((16 < tags t) × (a ≡ joined.TooDeep) × (s ≡ zeros))
+    ((tags t ≤ mostTags) × (a ≡ joined.Joined) × Packs s t c) ⊎ ((mostTags < tags t) × (a ≡ joined.TooDeep) × (s ≡ zeros))
 AnswersOutcome (differ x y) a s = (a ≡ joined.Mismatch) × (s ≡ zeros)
 
-outcome-unique : (o : Outcome ℕ) (a a′ : JoinAnswer) (s s′ : Summary) → AnswersOutcome o a s → AnswersOutcome o a′ s′
+outcome-unique : (o : Outcome Piece) (a a′ : JoinAnswer) (s s′ : Summary) → AnswersOutcome o a s → AnswersOutcome o a′ s′
     → (a ≡ a′) × (s ≡ s′)
 outcome-unique (reduced t c) a a′ s s′ (inl (l, e, p)) (inl (k, d, q)) = (e ∙ sym d, packs-unique p q)
 outcome-unique (reduced t c) a a′ s s′ (inl (l, e, p)) (inr (k, d, q)) = absurd (omega arith)

@@ -7,22 +7,16 @@ ghost use Prim.Native.Nat.{_+_, _≤_, _<_};
 ghost use lib.Dec.{eqb, ltb};
 ghost use lib.IntN.{pos, _-ℤ_};
 ghost use lib.ListN.{length};
-ghost use Rattle.hedge.specs.Operations.{full, covers};
+ghost use Rattle.hedge.specs.Schema.{mostStates};
+ghost use Rattle.lore.specs.Lore.{IsLore};
+ghost use Rattle.pieces.specs.Pieces.{mostTags, mostPieces, pieces, fitsIn, isNone};
 ghost use Rattle.template.specs.Order.{reading};
 ghost use Rattle.template.specs.declared.Reading.the-variants.{Sound};
-ghost use Rattle.summary.specs.Packing.{zeros, IsSummary, every, nameFits, valueFits, Small};
-ghost use Rattle.summary.specs.Fragments.{FragmentSays};
+ghost use Rattle.reader.specs.Reads.{Reads};
+ghost use Rattle.summary.specs.Packing.{zeros, IsSummary, every, nameFits, pieceFits};
+ghost use Rattle.summary.specs.Fragments.{FragmentSays, FragmentFinds};
 ghost use Rattle.summary.specs.Joins.{SummaryUnder, JoinSays, DepthSays};
 ghost use Rattle.summary.specs.Answers.{fragmentAnswer, fragmentNumber, joinAnswer, joinNumber, depthAnswer, depthNumber, netDepth};
-
-// A reduced form: the numbers of its unmatched ends and starts, the names of the tags in their order, and the relation before each tag
-// and after the last.
-pub struct Summary {
-    pub ends: usize,
-    pub starts: usize,
-    pub names: [u8; 16],
-    pub relations: [u64; 17],
-}
 
 // What reading a fragment answers, with the place of the fault.
 pub enum FragmentAnswer {
@@ -36,7 +30,7 @@ pub enum FragmentAnswer {
 // The answer, and beside it the summary, all zeros where it was refused.
 pub struct FragmentReply {
     pub answer: FragmentAnswer,
-    pub summary: Summary,
+    pub summary: form::Summary,
 }
 
 // What joining answers.
@@ -50,7 +44,7 @@ pub enum JoinAnswer {
 
 pub struct JoinReply {
     pub answer: JoinAnswer,
-    pub summary: Summary,
+    pub summary: form::Summary,
 }
 
 // The net depth, or why there is none.
@@ -61,14 +55,13 @@ pub enum DepthReply {
 }
 
 // The summary of a refusal.
-fn zeros() -> Summary
+fn zeros() -> form::Summary
     ensures { λ r. ⌜ r ≡ zeros ⌝ }
 {
-    Summary {
-        ends: 0,
-        starts: 0,
-        names: [0u8; 16],
-        relations: [0u64; 17],
+    form::Summary {
+        counts: form::counted(0, 0),
+        names: [0u8; pieces::TAGS],
+        values: [0u64; pieces::PIECES],
     }
 }
 
@@ -83,36 +76,22 @@ fn refused(answer: FragmentAnswer) -> FragmentReply
     }
 }
 
-// Reads the bytes under a sound file of these numbers.
-pub fn summarise(file: &[u8], shape: template::Shape, bytes: &[u8]) -> FragmentReply
-    requires { ⌜ reading (now file) ≡ Sound shape ⌝ }
-    ensures { λ r. ⌜ FragmentSays (now (file .entry)) (now (bytes .entry)) r ⌝ }
+// Reads the bytes under a schema that was taught, where there are `known` names.
+pub fn summarise(lore: &[u64; lore::LORE], known: u8, bytes: &[u8]) -> FragmentReply
+    requires { ⌜ IsLore mostStates (now lore) ⌝ }
+    ensures { λ r. ⌜ FragmentFinds (Reads known (pieces (now (lore .entry))) mostTags (now (bytes .entry))) (r .answer) (r .summary) ⌝ }
 {
-    let schema = template::schema_rules(file, shape.templates, shape.schema);
-    let endings = template::ending_states(file, shape.templates, shape.schema, shape.endings);
-    let states = numbers::wide(shape.states);
-    let empty = hedge::unit(states);
-    let mut names = [0u8; 16];
-    let mut values = [0u64; 17];
-    values[0] = empty;
-    let p = reader::read_bytes(
-        schema,
-        endings,
-        states,
-        empty,
-        &mut names,
-        &mut values,
-        shape.names,
-        bytes,
-    );
+    let mut names = [0u8; pieces::TAGS];
+    let mut values = [0u64; pieces::PIECES];
+    pieces::put_piece(&mut values, 0, pieces::empty(lore));
+    let p = reader::read_bytes(lore, &mut names, &mut values, known, bytes);
     match p {
-        reader::Progress::Done(e, s) => FragmentReply {
+        reader::Progress::Read(c) => FragmentReply {
             answer: FragmentAnswer::Summarised,
-            summary: Summary {
-                ends: e,
-                starts: s,
+            summary: form::Summary {
+                counts: c,
                 names: names,
-                relations: values,
+                values: values,
             },
         },
         reader::Progress::NotATag(i) => refused(FragmentAnswer::NotATag(i)),
@@ -128,7 +107,11 @@ pub fn fragment(file: &[u8], bytes: &[u8]) -> FragmentReply
     let r = template::read(file);
     match r {
         template::Reading::Bad(p) => refused(FragmentAnswer::BadFile(p)),
-        template::Reading::Sound(shape) => summarise(file, shape, bytes),
+        template::Reading::Sound(shape) => {
+            let mut lore = [0u64; lore::LORE];
+            schema::teach(file, shape, &mut lore);
+            summarise(&lore, shape.names, bytes)
+        }
     }
 }
 
@@ -141,63 +124,63 @@ fn name_fits(used: bool, name: u8, known: u8) -> bool
 
 // The names in use are below the number of names, the others 0.
 fn names_fit(names: &[u8], n: usize, known: u8) -> bool
-    requires { ⌜ length (now names) ≡ 16 ⌝ }
-    ensures { λ r. ⌜ r ≡ every 16 (nameFits known n (now (names .entry))) ⌝ }
+    requires { ⌜ length (now names) ≡ mostTags ⌝ }
+    ensures { λ r. ⌜ r ≡ every mostTags (nameFits known n (now (names .entry))) ⌝ }
 {
     let mut t = true;
     let mut k = 0;
-    while k < 16 {
+    while k < pieces::TAGS {
         t = t & name_fits(k < n, names[k], known);
         k += 1;
     }
     t
 }
 
-// A relation in use is covered by the relation of all pairs, another is 0.
-fn value_fits(used: bool, value: u64, full: u64) -> bool
-    ensures { λ r. ⌜ r ≡ cond used (covers full value) (eqb value 0) ⌝ }
+// A piece in use stays within the states, another is none.
+fn piece_fits(used: bool, p: pieces::Piece, states: usize) -> bool
+    requires { ⌜ states ≤ mostStates ⌝ }
+    ensures { λ r. ⌜ r ≡ cond used (fitsIn states p) (isNone p) ⌝ }
 {
     if used {
-        hedge::covers(full, value)
+        pieces::fits(states, p)
     } else {
-        value == 0
+        pieces::is_none(p)
     }
 }
 
-// The relations in use stay within the states, the others are 0.
-fn values_fit(values: &[u64], n: usize, full: u64) -> bool
-    requires { ⌜ length (now values) ≡ 17 ⌝ }
-    ensures { λ r. ⌜ (r ≡ every 17 (valueFits full n (now (values .entry)))) × Small (now (values .entry)) ⌝ }
+// The pieces in use stay within the states, the others are none.
+fn pieces_fit(values: &[u64; pieces::PIECES], n: usize, states: usize) -> bool
+    requires { ⌜ states ≤ mostStates ⌝ }
+    ensures { λ r. ⌜ r ≡ every mostPieces (pieceFits states n (now (values .entry))) ⌝ }
 {
     let mut t = true;
     let mut k = 0;
-    while k < 17 {
-        t = t & value_fits(k <= n, values[k], full);
+    while k <= pieces::TAGS {
+        t = t & piece_fits(k <= n, pieces::piece_at(values, k), states);
         k += 1;
     }
     t
 }
 
 // Is the struct a summary, with so many names and states?
-fn is_summary(s: Summary, known: u8, states: usize) -> bool
-    requires { ⌜ states ≤ 8 ⌝ }
+fn is_summary(s: form::Summary, known: u8, states: usize) -> bool
+    requires { ⌜ states ≤ mostStates ⌝ }
     ensures { λ r. ⌜ (r ≡ true) ↔ IsSummary known states s ⌝ }
 {
-    let ends = s.ends;
-    let starts = s.starts;
-    if 16 < ends {
+    let c = s.counts;
+    if pieces::TAGS < c.ends {
         return false;
     }
-    if 16 - ends < starts {
+    if pieces::TAGS - c.ends < c.starts {
         return false;
     }
     let names = s.names;
-    let values = s.relations;
-    let n = ends + starts;
+    let values = s.values;
+    let n = c.ends + c.starts;
     if !names_fit(&names, n, known) {
         return false;
     }
-    values_fit(&values, n, hedge::full(states))
+    pieces_fit(&values, n, states)
 }
 
 fn join_refused(answer: JoinAnswer) -> JoinReply
@@ -211,43 +194,33 @@ fn join_refused(answer: JoinAnswer) -> JoinReply
 }
 
 // Joins two summaries under a sound file of these numbers.
-fn join_summaries(file: &[u8], shape: template::Shape, left: Summary, right: Summary) -> JoinReply
+fn join_summaries(
+    file: &[u8],
+    shape: template::Shape,
+    left: form::Summary,
+    right: form::Summary,
+) -> JoinReply
     requires { ⌜ reading (now file) ≡ Sound shape ⌝ }
     requires { ⌜ SummaryUnder (now file) left ⌝ }
     requires { ⌜ SummaryUnder (now file) right ⌝ }
     ensures { λ r. ⌜ JoinSays (now (file .entry)) left right r ⌝ }
 {
-    let schema = template::schema_rules(file, shape.templates, shape.schema);
-    let endings = template::ending_states(file, shape.templates, shape.schema, shape.endings);
-    let states = numbers::wide(shape.states);
-    let empty = hedge::unit(states);
+    let mut lore = [0u64; lore::LORE];
+    schema::teach(file, shape, &mut lore);
     let mut names = left.names;
-    let mut values = left.relations;
+    let mut values = left.values;
     let tags = right.names;
-    let relations = right.relations;
-    let n = right.ends + right.starts;
-    let t = form::then_form(
-        schema,
-        endings,
-        states,
-        empty,
-        &mut names,
-        &mut values,
-        left.ends,
-        left.starts,
-        &tags,
-        &relations,
-        right.ends,
-        n,
-    );
+    let parts = right.values;
+    let c = left.counts;
+    let more = right.counts;
+    let t = form::then_form(&lore, &mut names, &mut values, c, &tags, &parts, more);
     match t {
-        form::Step::Kept(e, s) => JoinReply {
+        form::Step::Kept(d) => JoinReply {
             answer: JoinAnswer::Joined,
-            summary: Summary {
-                ends: e,
-                starts: s,
+            summary: form::Summary {
+                counts: d,
                 names: names,
-                relations: values,
+                values: values,
             },
         },
         form::Step::Mismatch(_, _) => join_refused(JoinAnswer::Mismatch),
@@ -256,7 +229,7 @@ fn join_summaries(file: &[u8], shape: template::Shape, left: Summary, right: Sum
 }
 
 // The summary of two fragments laid end to end, from their summaries: 7, 15, 11, 12; else the joined summary.
-pub fn join(file: &[u8], left: Summary, right: Summary) -> JoinReply
+pub fn join(file: &[u8], left: form::Summary, right: form::Summary) -> JoinReply
     ensures { λ r. ⌜ JoinSays (now (file .entry)) left right r ⌝ }
 {
     let r = template::read(file);
@@ -276,14 +249,14 @@ pub fn join(file: &[u8], left: Summary, right: Summary) -> JoinReply
 
 // Starts minus ends.
 fn difference(starts: usize, ends: usize) -> i32
-    requires { ⌜ ends + starts ≤ 16 ⌝ }
+    requires { ⌜ ends + starts ≤ mostTags ⌝ }
     ensures { λ r. ⌜ r ≡ pos starts -ℤ pos ends ⌝ }
 {
     (starts as i32) - (ends as i32)
 }
 
 // The net depth of a summary: 7, 15; else starts minus ends.
-pub fn net_depth(file: &[u8], s: Summary) -> DepthReply
+pub fn net_depth(file: &[u8], s: form::Summary) -> DepthReply
     ensures { λ r. ⌜ DepthSays (now (file .entry)) s r ⌝ }
 {
     let r = template::read(file);
@@ -293,7 +266,8 @@ pub fn net_depth(file: &[u8], s: Summary) -> DepthReply
             if !is_summary(s, shape.names, numbers::wide(shape.states)) {
                 return DepthReply::NoSummary;
             }
-            DepthReply::Net(difference(s.starts, s.ends))
+            let c = s.counts;
+            DepthReply::Net(difference(c.starts, c.ends))
         }
     }
 }

@@ -9,7 +9,7 @@ use native.Mathlib.Nat.{one-mul, mul-le-mul-left}
 use native.Mathlib.Omega.{arith}
 use lib.ListN.{length, take, drop}
 use borrow.Author.Tests.{lt-leb}
-use Rattle.template.specs.Layout.{names, nonterminals, states, ruleCount, schemaCount, endingCount}
+use Rattle.template.specs.Layout.{nameCount, nonterminals, states, ruleCount, schemaCount, endingCount}
 use Rattle.template.specs.Layout.{schemaStart, endingStart, partOf, templateRules, schemaRules, endingStates}
 use Rattle.template.specs.Order.{firstFault, test, fieldTests, width, precedes, ascends, entryTests, bodyTests, body}
 use Rattle.template.specs.declared.Fault.the-variants.{Nowhere}
@@ -70,10 +70,10 @@ entry-wide Endings = omega arith
 
 -- the entries of a body of the file
 module _ (b : Body) (f : List ℕ) (first n : ℕ) (e : firstFault (body b f first n) ≡ Nowhere) where
-  pub fields-hold : (i : ℕ) → i < n → TestsHold (fieldTests b (names f) (nonterminals f) (states f) f (first + width b * i))
+  pub fields-hold : (i : ℕ) → i < n → TestsHold (fieldTests b (nameCount f) (nonterminals f) (states f) f (first + width b * i))
   fields-hold i h =
-      nowhere-holds (fieldTests b (names f) (nonterminals f) (states f) f (first + width b * i))
-      (body-fields b (names f) (nonterminals f) (states f) f first n e i h)
+      nowhere-holds (fieldTests b (nameCount f) (nonterminals f) (states f) f (first + width b * i))
+      (body-fields b (nameCount f) (nonterminals f) (states f) f first n e i h)
 
   pub body-ascending : first + width b * n ≤ length f → EntriesAscend (width b) n (partOf f first (width b * n))
   body-ascending h i k =
@@ -81,7 +81,7 @@ module _ (b : Body) (f : List ℕ) (first n : ℕ) (e : firstFault (body b f fir
       let next : width b * suc (suc i) ≤ width b * n = mul-le-mul-left (width b) k in
       rw (part-entry f first (width b * n) (width b) i h this, part-entry f first (width b * n) (width b) (suc i) h next)
       (ascends-precedes (width b) f first i (entry-wide b)
-      (body-ascends b (names f) (nonterminals f) (states f) f first n e (suc i) k))
+      (body-ascends b (nameCount f) (nonterminals f) (states f) f first n e (suc i) k))
 
 -- the three lists of a sound file
 module _ (f : List ℕ) (s : SoundFile f) where

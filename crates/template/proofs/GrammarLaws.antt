@@ -15,7 +15,7 @@ use borrow.Author.Tests.{ltb-true, leb-true, lt-ltb, le-ltb}
 use Rattle.words.specs.Tags.{Tag, start, end}
 use Rattle.numbers.specs.Fields.{field}
 use Rattle.hedge.specs.Schema.{RulesBelow, EndsBelow}
-use Rattle.template.specs.Layout.{byteAt, names, nonterminals, states, ruleCount, schemaCount, endingCount}
+use Rattle.template.specs.Layout.{byteAt, nameCount, nonterminals, states, ruleCount, schemaCount, endingCount}
 use Rattle.template.specs.Layout.{schemaStart, endingStart, templateRules, schemaRules, endingStates}
 use Rattle.template.specs.Order.{isSymbol, symbolHolds, fieldTests, width}
 use Rattle.template.specs.Grammar.{Symbol, tag, nonterminal, symbolOf, rightSide, Gives}
@@ -82,7 +82,7 @@ right-length rules i =
 module _ (f : List ℕ) (s : SoundFile f) where
   -- a schema rule's four fields
   pub schema-rule-below : (i : ℕ) → i < schemaCount f
-      → (field (schemaRules f) i 0 < states f) × (field (schemaRules f) i 1 < names f)
+      → (field (schemaRules f) i 0 < states f) × (field (schemaRules f) i 1 < nameCount f)
       × (field (schemaRules f) i 2 < states f) × (field (schemaRules f) i 3 < states f)
   unfolding width fieldTests
   schema-rule-below i h =
@@ -91,7 +91,7 @@ module _ (f : List ℕ) (s : SoundFile f) where
       rw (schema-rules-field f s i 0 h (omega arith), add-zero at, schema-rules-field f s i 1 h (omega arith))
       (rw (schema-rules-field f s i 2 h (omega arith), schema-rules-field f s i 3 h (omega arith)) (
         ltb-true (byteAt f at) (states f) (p .0),
-        ltb-true (byteAt f (at + 1)) (names f) (p .1 .0),
+        ltb-true (byteAt f (at + 1)) (nameCount f) (p .1 .0),
         ltb-true (byteAt f (at + 2)) (states f) (p .1 .1 .0),
         ltb-true (byteAt f (at + 3)) (states f) (p .1 .1 .1 .0),
       ))
@@ -101,7 +101,7 @@ module _ (f : List ℕ) (s : SoundFile f) where
       let p = schema-rule-below i (rw (schema-rules-count f s) at h) in
       (p .0, p .2, p .3)
 
-  pub schema-names-below : (i : ℕ) → i < length (schemaRules f) / 4 → field (schemaRules f) i 1 < names f
+  pub schema-names-below : (i : ℕ) → i < length (schemaRules f) / 4 → field (schemaRules f) i 1 < nameCount f
   schema-names-below i h = schema-rule-below i (rw (schema-rules-count f s) at h) .1
 
   pub endings-below : EndsBelow (states f) (endingStates f)
@@ -116,7 +116,7 @@ module _ (f : List ℕ) (s : SoundFile f) where
   -- a template rule's left side, length and symbols
   pub rule-below : (i : ℕ) → i < ruleCount f
       → (field (templateRules f) i 0 < nonterminals f) × (field (templateRules f) i 1 ≤ 2)
-      × SymbolsBelow (names f) (nonterminals f) (rightSide (templateRules f) i)
+      × SymbolsBelow (nameCount f) (nonterminals f) (rightSide (templateRules f) i)
   unfolding width fieldTests rightSide
   rule-below i h =
       let at = 16 + 4 * i in
@@ -126,12 +126,12 @@ module _ (f : List ℕ) (s : SoundFile f) where
       (rw (rules-field f s i 2 h (omega arith), rules-field f s i 3 h (omega arith)) (
         ltb-true (byteAt f at) (nonterminals f) (p .0),
         few,
-        symbols-below (names f) (nonterminals f) (byteAt f (at + 1)) (byteAt f (at + 2)) (byteAt f (at + 3)) (s .few-names) few
+        symbols-below (nameCount f) (nonterminals f) (byteAt f (at + 1)) (byteAt f (at + 2)) (byteAt f (at + 3)) (s .few-names) few
             (p .1 .1 .0) (p .1 .1 .1 .0),
       ))
 
   pub gives-below : (x : ℕ) (symbols : List Symbol) → Gives (templateRules f) x symbols
-      → (x < nonterminals f) × (length symbols ≤ 2) × SymbolsBelow (names f) (nonterminals f) symbols
+      → (x < nonterminals f) × (length symbols ≤ 2) × SymbolsBelow (nameCount f) (nonterminals f) symbols
   gives-below x symbols g =
       let p = rule-below (g .0) (rw (rules-count f s) at g .1) in
       (rw (g .2) at (p .0), rw (g .3) at (right-length (templateRules f) (g .0)), rw (g .3) at (p .2))

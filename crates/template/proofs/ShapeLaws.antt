@@ -4,23 +4,14 @@ use mathlib.Core.Path.{_≡_, sym, ap, _∙_, subst}
 use mathlib.Core.List.{List}
 use Prim.Native.Nat.{ℕ, _+_, _*_, _≤_}
 use native.Mathlib.Omega.{arith}
-use Rattle.words.specs.Binoid.{Laws}
-use Rattle.hedge.specs.Schema.{RulesBelow, EndsBelow}
-use Rattle.hedge.proofs.NumberLaws.{relations-laws}
-use Rattle.template.specs.Layout.{names, states, partOf, schemaRules, endingStates}
+use Rattle.hedge.specs.Schema.{mostStates, RulesBelow, EndsBelow}
+use Rattle.template.specs.Layout.{nameCount, states, partOf, schemaRules, endingStates}
 use Rattle.template.specs.Order.{IsSound, shapeOf, reading}
-use Rattle.template.specs.Schemas.{binoidOf}
 use Rattle.template.specs.declared.Reading.{Reading}
 use Rattle.template.specs.declared.Reading.the-variants.{Sound, Bad}
 use Rattle.template.specs.declared.Shape.{Shape}
 use Rattle.template.proofs.SoundLaws.{SoundFile, reading-sound, sound-reading, sound-file}
 use Rattle.template.proofs.GrammarLaws.{schema-rules-below, endings-below}
-
--- the laws of a sound file's binoid
-abbrev pub lawsOf : (f : List ℕ) → IsSound f → Laws (binoidOf f)
-lawsOf f sound =
-    let s = sound-file f sound in
-    relations-laws 8 (states f) (s .few-states) (schemaRules f) (endingStates f) (schema-rules-below f s) (endings-below f s)
 
 -- a file is sound or bad
 pub sound-not-bad : (f : List ℕ) (p : ℕ) → IsSound f → reading f ≡ Bad p → ⊥
@@ -41,15 +32,15 @@ module _ (f : List ℕ) (shape : Shape) (sound : reading f ≡ Sound shape) wher
   shape-is : shape ≡ shapeOf f
   shape-is = reading-sound f shape sound .1
 
-  pub names-are : shape .names ≡ names f
+  pub names-are : shape .names ≡ nameCount f
   names-are = ap (λ (s : Shape). s .names) shape-is
 
   module _ (q : ℕ) (h : q ≡ shape .states) where
     pub states-are : q ≡ states f
     states-are = h ∙ ap (λ (s : Shape). s .states) shape-is
 
-    pub states-few : q ≤ 8
-    states-few = subst (λ n. n ≤ 8) (sym states-are) (shape-file .few-states)
+    pub states-few : q ≤ mostStates
+    states-few = subst (λ n. n ≤ mostStates) (sym states-are) (shape-file .few-states)
 
     -- the parts
     module _ (schema endings : List ℕ) (hs : schema ≡ partOf f (16 + 4 * shape .templates) (4 * shape .schema))

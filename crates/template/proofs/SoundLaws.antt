@@ -8,7 +8,7 @@ use native.Mathlib.Omega.{arith}
 use lib.Dec.{leb}
 use lib.ListN.{length}
 use borrow.Author.Tests.{leb-true, eqb-true, le-leb, eq-eqb}
-use Rattle.template.specs.Layout.{byteAt, halfAt, names, nonterminals, states, ruleCount, schemaCount, endingCount}
+use Rattle.template.specs.Layout.{byteAt, halfAt, nameCount, nonterminals, states, ruleCount, schemaCount, endingCount}
 use Rattle.template.specs.Layout.{schemaStart, endingStart, bodiesEnd}
 use Rattle.template.specs.Order.{firstFault, between}
 use Rattle.template.specs.Order.{headTests, contentsTests, body, bodies, tests, IsSound, shapeOf, verdict, reading}
@@ -36,8 +36,8 @@ sound-reading f e = rw e
 
 -- what holds of a sound file: its numbers, its length, and the tests of its three bodies
 pub record SoundFile (f : List ℕ) : Type 0 where
-  pub some-name : 1 ≤ names f
-  pub few-names : names f ≤ 32
+  pub some-name : 1 ≤ nameCount f
+  pub few-names : nameCount f ≤ 32
   pub some-nonterminal : 1 ≤ nonterminals f
   pub few-nonterminals : nonterminals f ≤ 64
   pub some-state : 1 ≤ states f
@@ -71,7 +71,7 @@ sound-file f e =
     let w = first-append-nowhere schema-rules endings (v .1) in
     let h = nowhere-holds (headTests f) (t .0) in
     let k = nowhere-holds (contentsTests f) (u .0) in
-    let a = between-true 1 (names f) 32 (h .1 .0) in
+    let a = between-true 1 (nameCount f) 32 (h .1 .0) in
     let n = between-true 1 (nonterminals f) 64 (h .1 .1 .0) in
     let q = between-true 1 (states f) 8 (h .1 .1 .1 .0) in
     record {
@@ -102,7 +102,7 @@ pub file-sound : (f : List ℕ) → SoundFile f → IsSound f
 unfolding tests headTests contentsTests bodies firstFault
 file-sound f s =
     let head : firstFault (headTests f) ≡ Nowhere =
-    rw (le-leb 16 (length f) (omega arith), true-between 1 (names f) 32 (s .some-name) (s .few-names))
+    rw (le-leb 16 (length f) (omega arith), true-between 1 (nameCount f) 32 (s .some-name) (s .few-names))
     (rw (true-between 1 (nonterminals f) 64 (s .some-nonterminal) (s .few-nonterminals))
     (rw (true-between 1 (states f) 8 (s .some-state) (s .few-states), eq-eqb (byteAt f 3) 0 (s .spare-zero)))) in
     let contents : firstFault (contentsTests f) ≡ Nowhere =

@@ -6,6 +6,24 @@ use mathlib.Core.List.{List, []}
 use Prim.Native.Nat.{ℕ, _+_, _*_}
 use lib.Dec.{leb}
 use lib.ListN.{length, getD, take, drop}
+use Rattle.hedge.specs.Schema.{mostStates}
+
+-- where the first body begins: behind the head and the contents
+abbrev pub firstBody : ℕ
+firstBody = 16
+
+-- the most nonterminals, template rules and schema rules, and the length of the longest file
+abbrev pub mostNonterminals : ℕ
+mostNonterminals = 64
+
+abbrev pub mostRules : ℕ
+mostRules = 256
+
+abbrev pub mostSchemaRules : ℕ
+mostSchemaRules = 128
+
+abbrev pub longestFile : ℕ
+longestFile = firstBody + 4 * mostRules + 4 * mostSchemaRules + mostStates
 
 -- the byte at a place, and the 16-bit number
 abbrev pub byteAt : List ℕ → ℕ → ℕ
@@ -15,8 +33,8 @@ unfoldable pub halfAt : List ℕ → ℕ → ℕ
 halfAt f p = byteAt f p + 256 * byteAt f (p + 1)
 
 -- A, N and Q
-abbrev pub names : List ℕ → ℕ
-names f = byteAt f 0
+abbrev pub nameCount : List ℕ → ℕ
+nameCount f = byteAt f 0
 
 abbrev pub nonterminals : List ℕ → ℕ
 nonterminals f = byteAt f 1
@@ -36,7 +54,7 @@ endingCount f = halfAt f 14
 
 -- where the second and the third body begin, and where the last one ends: a rule has 4 bytes, an ending state 1
 abbrev pub schemaStart : List ℕ → ℕ
-schemaStart f = 16 + 4 * ruleCount f
+schemaStart f = firstBody + 4 * ruleCount f
 
 abbrev pub endingStart : List ℕ → ℕ
 endingStart f = schemaStart f + 4 * schemaCount f
@@ -54,7 +72,7 @@ partOf f at len = pickPart (leb (at + len) (length f)) (take len (drop at f))
 
 -- the three lists, as parts of the file
 abbrev pub templateRules : List ℕ → List ℕ
-templateRules f = partOf f 16 (4 * ruleCount f)
+templateRules f = partOf f firstBody (4 * ruleCount f)
 
 abbrev pub schemaRules : List ℕ → List ℕ
 schemaRules f = partOf f (schemaStart f) (4 * schemaCount f)

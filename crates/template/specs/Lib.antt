@@ -1,4 +1,3 @@
 pub mod Layout
 pub mod Order
 pub mod Grammar
-pub mod Schemas

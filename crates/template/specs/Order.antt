@@ -7,7 +7,10 @@ use mathlib.Core.List.{List, [], _∷_, _++_}
 use Prim.Native.Nat.{ℕ, zero, suc, _+_, _-_}
 use lib.Dec.{ltb, leb, eqb}
 use lib.ListN.{length, take, drop}
-use Rattle.template.specs.Layout.{byteAt, halfAt, names, nonterminals, states, ruleCount, schemaCount, endingCount}
+use Rattle.words.specs.Tags.{mostNames}
+use Rattle.hedge.specs.Schema.{mostStates}
+use Rattle.template.specs.Layout.{mostNonterminals, mostRules, mostSchemaRules}
+use Rattle.template.specs.Layout.{byteAt, halfAt, nameCount, nonterminals, states, ruleCount, schemaCount, endingCount}
 use Rattle.template.specs.Layout.{schemaStart, endingStart, bodiesEnd}
 use Rattle.template.specs.declared.Fault.{Fault}
 use Rattle.template.specs.declared.Fault.the-variants.{Nowhere, At}
@@ -46,9 +49,9 @@ between low x high = leb low x && leb x high
 unfoldable pub headTests : List ℕ → List Test
 headTests f =
     test (leb 16 (length f)) 0
-    ∷ test (between 1 (names f) 32) 0
-    ∷ test (between 1 (nonterminals f) 64) 1
-    ∷ test (between 1 (states f) 8) 2
+    ∷ test (between 1 (nameCount f) mostNames) 0
+    ∷ test (between 1 (nonterminals f) mostNonterminals) 1
+    ∷ test (between 1 (states f) mostStates) 2
     ∷ test (eqb (byteAt f 3) 0) 3
     ∷ []
 
@@ -56,9 +59,9 @@ headTests f =
 unfoldable pub contentsTests : List ℕ → List Test
 contentsTests f =
     test (eqb (halfAt f 4) 16) 4
-    ∷ test (leb (ruleCount f) 256) 6
+    ∷ test (leb (ruleCount f) mostRules) 6
     ∷ test (eqb (halfAt f 8) (schemaStart f)) 8
-    ∷ test (leb (schemaCount f) 128) 10
+    ∷ test (leb (schemaCount f) mostSchemaRules) 10
     ∷ test (eqb (halfAt f 12) (endingStart f)) 12
     ∷ test (leb (endingCount f) (states f)) 14
     ∷ test (eqb (length f) (bodiesEnd f)) 0
@@ -113,7 +116,7 @@ bodyTests b A N Q f first at zero = []
 bodyTests b A N Q f first at (suc n) = entryTests b A N Q f first at ++ bodyTests b A N Q f first (at + width b) n
 
 abbrev pub body : Body → List ℕ → ℕ → ℕ → List Test
-body b f first n = bodyTests b (names f) (nonterminals f) (states f) f first first n
+body b f first n = bodyTests b (nameCount f) (nonterminals f) (states f) f first first n
 
 unfoldable pub bodies : List ℕ → List Test
 bodies f =
@@ -132,7 +135,7 @@ IsSound f = firstFault (tests f) ≡ Nowhere
 abbrev pub shapeOf : List ℕ → Shape
 shapeOf f =
     record {
-      names = names f;
+      names = nameCount f;
       nonterminals = nonterminals f;
       states = states f;
       templates = ruleCount f;

@@ -7,6 +7,15 @@ ghost use Rattle.template.specs.Layout.{halfAt, bodiesEnd, partOf};
 ghost use Rattle.template.specs.Order.{test, between, orThen, firstFault, headTests, contentsTests, isSymbol, symbolHolds};
 ghost use Rattle.template.specs.Order.{fieldTests, width, precedes, ascends, entryTests, bodyTests, bodies, shapeOf, reading};
 
+// The most nonterminals, template rules and schema rules, and the length of the longest file.
+pub const NONTERMINALS: usize = 64;
+
+pub const RULES: usize = 256;
+
+pub const SCHEMA_RULES: usize = 128;
+
+pub const LONGEST: usize = 16 + 4 * RULES + 4 * SCHEMA_RULES + hedge::STATES;
+
 // Where the first fault is.
 pub enum Fault {
     Nowhere,
@@ -66,7 +75,7 @@ fn then_test(fault: Fault, holds: bool, place: usize) -> Fault
     }
 }
 
-fn is_between(low: u8, x: u8, high: u8) -> bool
+fn is_between(low: usize, x: usize, high: usize) -> bool
     ensures { λ r. ⌜ r ≡ between low x high ⌝ }
 {
     (low <= x) & (x <= high)
@@ -79,9 +88,13 @@ fn head_fault(file: &[u8]) -> Fault
     if file.len() < 16 {
         return Fault::At(0);
     }
-    let f = then_test(Fault::Nowhere, is_between(1, file[0], 32), 0);
-    let f = then_test(f, is_between(1, file[1], 64), 1);
-    let f = then_test(f, is_between(1, file[2], 8), 2);
+    let f = then_test(
+        Fault::Nowhere,
+        is_between(1, numbers::wide(file[0]), words::NAMES),
+        0,
+    );
+    let f = then_test(f, is_between(1, numbers::wide(file[1]), NONTERMINALS), 1);
+    let f = then_test(f, is_between(1, numbers::wide(file[2]), hedge::STATES), 2);
     then_test(f, file[3] == 0, 3)
 }
 
@@ -101,9 +114,9 @@ fn contents_fault(file: &[u8]) -> Fault
     let ending_start = schema_start + 4 * schema_rules;
     let end = ending_start + endings;
     let f = then_test(Fault::Nowhere, first == 16, 4);
-    let f = then_test(f, rules <= 256, 6);
+    let f = then_test(f, rules <= RULES, 6);
     let f = then_test(f, second == schema_start, 8);
-    let f = then_test(f, schema_rules <= 128, 10);
+    let f = then_test(f, schema_rules <= SCHEMA_RULES, 10);
     let f = then_test(f, third == ending_start, 12);
     let f = then_test(f, endings <= states, 14);
     then_test(f, file.len() == end, 0)

@@ -7,7 +7,7 @@ use mathlib.Core.Logic.{_↔_}
 use Prim.Native.Nat.{ℕ}
 use Rattle.words.specs.Tags.{Tag}
 use Rattle.template.specs.Grammar.{Symbol, tag, nonterminal}
-use Rattle.trees.specs.Trees.{Yields, yields-nothing, yields-tag, yields-tree, Productive, Reached, start-reached, rule-reached}
+use Rattle.trees.specs.Trees.{Yields, yields-nothing, yields-tag, yields-tree, AllProductive, Reached, start-reached, rule-reached}
 use Rattle.trees.proofs.HeightLaws.{generates-append, generates-node}
 
 -- each nonterminal among the symbols
@@ -29,6 +29,11 @@ module _ (P : ℕ → Type 0) where
   all-places (nonterminal x ∷ ss) f =
       (f [] ss x refl, all-places ss (λ l r y e. f (nonterminal x ∷ l) r y (ap (λ z. nonterminal x ∷ z) e)))
 
+  pub all-append : (l r : List Symbol) → AllNonterminals P l → AllNonterminals P r → AllNonterminals P (l ++ r)
+  all-append [] r a b = b
+  all-append (tag t ∷ l) r a b = all-append l r a b
+  all-append (nonterminal x ∷ l) r (p, a) b = (p, all-append l r a b)
+
   module _ (Q : ℕ → Type 0) where
     pub all-map : ((x : ℕ) → P x → Q x) → (ss : List Symbol) → AllNonterminals P ss → AllNonterminals Q ss
     all-map f [] a = tt
@@ -43,7 +48,7 @@ module _ (P : ℕ → Type 0) where
 module _ (Rule : ℕ → List Symbol → Type 0) where
   -- the nonterminal derives some string
   abbrev pub HasTree : ℕ → Type 0
-  HasTree x = Productive Rule (nonterminal x ∷ [])
+  HasTree x = AllProductive Rule (nonterminal x ∷ [])
 
   -- every rule whose right side is marked has its left side marked
   abbrev pub ClosedUp : (ℕ → Type 0) → Type 0
@@ -51,7 +56,7 @@ module _ (Rule : ℕ → List Symbol → Type 0) where
 
   -- every rule of a marked left side marks its right side, where that derives some string
   abbrev pub ClosedDown : (ℕ → Type 0) → Type 0
-  ClosedDown M = (x : ℕ) (rhs : List Symbol) → M x → Rule x rhs → Productive Rule rhs → AllNonterminals M rhs
+  ClosedDown M = (x : ℕ) (rhs : List Symbol) → M x → Rule x rhs → AllProductive Rule rhs → AllNonterminals M rhs
 
   -- symbols derive some string when each of their nonterminals does
 
@@ -62,7 +67,7 @@ module _ (Rule : ℕ → List Symbol → Type 0) where
       let (n, t) = generates-node rule (m, y) in
       ((u, n, t), all-have-trees z)
 
-  pub all-productive : (ss : List Symbol) → AllNonterminals HasTree ss → Productive Rule ss
+  pub all-productive : (ss : List Symbol) → AllNonterminals HasTree ss → AllProductive Rule ss
   all-productive [] a = ([], 0, yields-nothing)
   all-productive (tag t ∷ ss) a = let (w, n, y) = all-productive ss a in (t ∷ w, n, yields-tag y)
   all-productive (nonterminal x ∷ ss) ((u, m, t), a) =
@@ -70,14 +75,14 @@ module _ (Rule : ℕ → List Symbol → Type 0) where
       let (k, z) = generates-append (m, t) (n, y) in
       (u ++ w, k, z)
 
-  pub productive-each : (ss : List Symbol) → Productive Rule ss ↔ AllNonterminals HasTree ss
+  pub productive-each : (ss : List Symbol) → AllProductive Rule ss ↔ AllNonterminals HasTree ss
   productive-each ss = (λ (w, n, y). all-have-trees y, all-productive ss)
 
-  pub rule-productive : {x : ℕ} {rhs : List Symbol} → Rule x rhs → Productive Rule rhs → HasTree x
+  pub rule-productive : {x : ℕ} {rhs : List Symbol} → Rule x rhs → AllProductive Rule rhs → HasTree x
   rule-productive rule (w, n, y) = let (m, t) = generates-node rule (n, y) in (w, m, t)
 
   -- the nonterminals of a rule that is reached and derives some string are reached
-  pub rule-all-reached : {x : ℕ} {rhs : List Symbol} → Reached Rule x → Rule x rhs → Productive Rule rhs
+  pub rule-all-reached : {x : ℕ} {rhs : List Symbol} → Reached Rule x → Rule x rhs → AllProductive Rule rhs
       → AllNonterminals (Reached Rule) rhs
   rule-all-reached {rhs = rhs} c rule p =
       all-places (Reached Rule) rhs (λ l r y e. rule-reached l r c (rw e rule) (rw e p))

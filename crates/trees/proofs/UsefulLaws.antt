@@ -6,12 +6,12 @@ use Prim.Native.Nat.{ℕ}
 use native.Mathlib.Omega.{arith}
 use Rattle.words.specs.Tags.{Tag}
 use Rattle.template.specs.Grammar.{Symbol, nonterminal}
-use Rattle.trees.specs.Trees.{Productive, Reached, start-reached, rule-reached, Useful}
+use Rattle.trees.specs.Trees.{AllProductive, Reached, start-reached, rule-reached, Useful}
 use Rattle.trees.proofs.HeightLaws.{Generates, yields-within, within-split, within-generates, generates-append, generates-node}
 use Rattle.trees.proofs.MarkLaws.{AllNonterminals, all-both, HasTree, productive-each, rule-all-reached}
 
 module _ {Rule : ℕ → List Symbol → Type 0} where
-  pub rule-useful : {x : ℕ} {rhs : List Symbol} → Useful Rule x → Rule x rhs → Productive Rule rhs
+  pub rule-useful : {x : ℕ} {rhs : List Symbol} → Useful Rule x → Rule x rhs → AllProductive Rule rhs
       → AllNonterminals (Useful Rule) rhs
   rule-useful {rhs = rhs} (t, c) rule p =
       all-both (HasTree Rule) (Reached Rule) rhs (productive-each Rule rhs .0 p) (rule-all-reached Rule c rule p)

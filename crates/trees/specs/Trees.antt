@@ -18,15 +18,18 @@ module _ (Rule : ℕ → List Symbol → Type 0) where
   abbrev pub Tree : ℕ → List Tag → ℕ → Type 0
   Tree x w n = Yields (nonterminal x ∷ []) w n
 
-  -- the symbols derive some tag string
-  abbrev pub Productive : List Symbol → Type 0
-  Productive ss = (w : List Tag) × (n : ℕ) × Yields ss w n
+  -- the symbols derive some tag string, and a nonterminal does
+  abbrev pub AllProductive : List Symbol → Type 0
+  AllProductive ss = (w : List Tag) × (n : ℕ) × Yields ss w n
+
+  abbrev pub Productive : ℕ → Type 0
+  Productive x = AllProductive (nonterminal x ∷ [])
 
   -- reached from the start through rules whose nonterminals all derive some
   pub data Reached : ℕ → Type 0 where
     start-reached : Reached 0
     rule-reached : {x y : ℕ} (l r : List Symbol) → Reached x → Rule x (l ++ (nonterminal y ∷ r))
-        → Productive (l ++ (nonterminal y ∷ r)) → Reached y
+        → AllProductive (l ++ (nonterminal y ∷ r)) → Reached y
 
   abbrev pub Useful : ℕ → Type 0
-  Useful x = Productive (nonterminal x ∷ []) × Reached x
+  Useful x = Productive x × Reached x

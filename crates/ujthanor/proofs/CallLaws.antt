@@ -2,12 +2,16 @@
 -- summary has at most 16 tags: that of a refusal is all zeros. Assumes nothing.
 use mathlib.Core.Path.{_≡_, refl}
 use mathlib.Core.List.{List}
-use Prim.Native.Nat.{ℕ, _+_, _≤_, _<_}
+use Prim.Native.Nat.{ℕ, _≤_, _<_}
 use native.Mathlib.Omega.{arith}
 use lib.ListN.{length}
 use borrow.Author.Needs.{needs}
 use Rattle.words.specs.Reduced.{Stack}
-use Rattle.summary.specs.declared.Summary.{Summary}
+use Rattle.pieces.specs.declared.Piece.{Piece}
+use Rattle.pieces.specs.Pieces.{mostTags, piecesLong}
+use Rattle.form.specs.Held.{tagCount}
+use Rattle.form.specs.declared.Summary.{Summary}
+use Rattle.worktable.specs.Packed.{rowWidth}
 use Rattle.summary.specs.declared.FragmentAnswer.{FragmentAnswer}
 use Rattle.summary.specs.declared.FragmentAnswer.the-variants as fragment
 use Rattle.summary.specs.declared.FragmentReply.{FragmentReply}
@@ -19,24 +23,24 @@ use Rattle.summary.specs.Fragments.{FragmentAnswers, FragmentSays}
 use Rattle.summary.specs.Joins.{JoinAnswers, JoinSays}
 use Rattle.summary.specs.Answers.{fragmentAnswer, fragmentNumber, joinAnswer, joinNumber}
 use Rattle.ujthanor.specs.LentRows.{written, StandsFor}
-use Rattle.ujthanor.specs.Calls.{ShortRow, FragmentCalled, JoinCalled}
+use Rattle.ujthanor.specs.Calls.{shortRow, FragmentCalled, JoinCalled}
 
 -- ---- the summary of a reply with answer a
 
--- at most 16 tags and 17 relations, all zeros where the reply is a refusal
+-- at most 16 tags, all its entries, and all zeros where the reply is a refusal
 pub record Made (a : ℕ) (s : Summary) : Type 0 where
   pub low : a ≤ 15
-  pub few : s .ends + s .starts ≤ 16
-  pub room : length (s .relations) ≡ 17
+  pub few : tagCount (s .counts) ≤ mostTags
+  pub long : length (s .values) ≡ piecesLong
   pub zero : 1 ≤ a → s ≡ zeros
 
-packed-made : (s : Summary) (t : Stack ℕ) (c : ℕ) → Packs s t c → Made 0 s
+packed-made : (s : Summary) (t : Stack Piece) (c : Piece) → Packs s t c → Made 0 s
 packed-made s t c packs =
-    record { low = omega arith; few = packs .few; room = packs .relations-room; zero = λ h. absurd (omega (arith, h)) }
+    record { low = omega arith; few = packs .holds .room; long = packs .holds .values-long; zero = λ h. absurd (omega (arith, h)) }
 
 refused-made : (a : ℕ) (s : Summary) → a ≤ 15 → s ≡ zeros → Made a s
 unfolding zeros
-refused-made a s low e = record { low = low; few = rw e (omega arith); room = rw e refl; zero = λ _. e }
+refused-made a s low e = record { low = low; few = rw e (omega arith); long = rw e refl; zero = λ _. e }
 
 answered-made : (f bytes : List ℕ) (a : FragmentAnswer) (s : Summary) → FragmentAnswers f bytes a s → Made (fragmentAnswer a) s
 answered-made f bytes fragment.Summarised s (_, (t, c, _, packs)) = packed-made s t c packs
@@ -59,24 +63,24 @@ pub join-made : (f : List ℕ) (left right : Summary) (r : JoinReply) → JoinSa
     → Made (joinAnswer (r .answer)) (r .summary)
 join-made f left right r says = joined-made f left right (r .answer) (r .summary) says
 
-pub fragment-few : (f bytes : List ℕ) (r : FragmentReply) → FragmentSays f bytes r → r .summary .ends + r .summary .starts ≤ 16
+pub fragment-few : (f bytes : List ℕ) (r : FragmentReply) → FragmentSays f bytes r → tagCount (r .summary .counts) ≤ mostTags
 fragment-few f bytes r says = fragment-made f bytes r says .few
 
 pub join-few : (f : List ℕ) (left right : Summary) (r : JoinReply) → JoinSays f left right r
-    → r .summary .ends + r .summary .starts ≤ 16
+    → tagCount (r .summary .counts) ≤ mostTags
 join-few f left right r says = join-made f left right r says .few
 
 -- ---- a fragment
 
 module _ (f bytes row : List ℕ) (a n : ℕ) (row′ : List ℕ) where
-  pub fragment-short : length row < 20 → a ≡ 17 → n ≡ 0 → row′ ≡ row → FragmentCalled f bytes row a n row′
+  pub fragment-short : length row < rowWidth → a ≡ shortRow → n ≡ 0 → row′ ≡ row → FragmentCalled f bytes row a n row′
   fragment-short short e d same =
       record {
         short-row = λ _. record { answer-is = e; number-is = d; unchanged = same };
         else-written = λ l. absurd (omega (arith, l, short));
       }
 
-  pub fragment-written : (r : FragmentReply) → 20 ≤ length row → FragmentSays f bytes r → a ≡ fragmentAnswer (r .answer)
+  pub fragment-written : (r : FragmentReply) → rowWidth ≤ length row → FragmentSays f bytes r → a ≡ fragmentAnswer (r .answer)
       → n ≡ fragmentNumber (r .answer) → row′ ≡ written row (r .summary) → FragmentCalled f bytes row a n row′
   fragment-written r long says e d w =
       record {
@@ -87,14 +91,14 @@ module _ (f bytes row : List ℕ) (a n : ℕ) (row′ : List ℕ) where
 -- ---- a join
 
 module _ (f left right row : List ℕ) (a n : ℕ) (row′ : List ℕ) where
-  pub join-short : length row < 20 → a ≡ 17 → n ≡ 0 → row′ ≡ row → JoinCalled f left right row a n row′
+  pub join-short : length row < rowWidth → a ≡ shortRow → n ≡ 0 → row′ ≡ row → JoinCalled f left right row a n row′
   join-short short e d same =
       record {
         short-row = λ _. record { answer-is = e; number-is = d; unchanged = same };
         else-written = λ l. absurd (omega (arith, l, short));
       }
 
-  pub join-written : (l m : Summary) (r : JoinReply) → 20 ≤ length row → StandsFor left l → StandsFor right m → JoinSays f l m r
+  pub join-written : (l m : Summary) (r : JoinReply) → rowWidth ≤ length row → StandsFor left l → StandsFor right m → JoinSays f l m r
       → a ≡ joinAnswer (r .answer) → n ≡ joinNumber (r .answer) → row′ ≡ written row (r .summary)
       → JoinCalled f left right row a n row′
   join-written l m r long first second says e d w =

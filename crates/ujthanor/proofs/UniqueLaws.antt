@@ -2,12 +2,13 @@
 -- functions; a lent row is a summary's row or it is not, and stands for one struct either way. Assumes nothing.
 use mathlib.Core.Path.{_≡_, sym, ap, _∙_, subst}
 use mathlib.Core.List.{List}
-use Prim.Native.Nat.{ℕ, _%_, _≤_, _<_}
+use Prim.Native.Nat.{ℕ, _≤_, _<_}
 use native.Mathlib.Decide.{ℕ-discrete, decLt}
 use native.Mathlib.Omega.{arith}
 use lib.IntN.{ℤ}
-use lib.ListN.{length, getD}
-use Rattle.summary.specs.declared.Summary.{Summary}
+use lib.ListN.{length}
+use Rattle.form.specs.declared.Summary.{Summary}
+use Rattle.worktable.specs.Packed.{rowWidth, nonterminalIn}
 use Rattle.summary.specs.declared.FragmentReply.{FragmentReply}
 use Rattle.summary.specs.declared.JoinReply.{JoinReply}
 use Rattle.summary.specs.declared.DepthReply.{DepthReply}
@@ -30,9 +31,9 @@ laid lay e p q = p ∙ ap lay e ∙ sym q
 -- ---- what a lent row stands for
 
 is-row : (row : List ℕ) → Dec (IsRow row)
-is-row row = both (ℕ-discrete (length row) 20) (ℕ-discrete (getD row 0 0 % 256) 0)
+is-row row = both (ℕ-discrete (length row) rowWidth) (ℕ-discrete (nonterminalIn row) 0)
   where
-    both : Dec (length row ≡ 20) → Dec (getD row 0 0 % 256 ≡ 0) → Dec (IsRow row)
+    both : Dec (length row ≡ rowWidth) → Dec (nonterminalIn row ≡ 0) → Dec (IsRow row)
     both (yes l) (yes z) = yes (l, z)
     both (yes l) (no z) = no (λ (_, e). z e)
     both (no l) d = no (λ (e, _). l e)
@@ -72,10 +73,10 @@ module _ (row : List ℕ) (a n a′ n′ : ℕ) (row′ row″ : List ℕ) where
   short-same p q =
       (p .answer-is ∙ sym (q .answer-is), p .number-is ∙ sym (q .number-is), p .unchanged ∙ sym (q .unchanged))
 
-  short-or-long : (length row < 20 → Same) → (20 ≤ length row → Same) → Same
-  short-or-long short long = by (decLt (length row) 20)
+  short-or-long : (length row < rowWidth → Same) → (rowWidth ≤ length row → Same) → Same
+  short-or-long short long = by (decLt (length row) rowWidth)
     where
-      by : Dec (length row < 20) → Same
+      by : Dec (length row < rowWidth) → Same
       by (yes l) = short l
       by (no l) = long (omega (arith, l))
 

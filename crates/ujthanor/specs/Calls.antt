@@ -5,7 +5,8 @@ use mathlib.Core.List.{List}
 use Prim.Native.Nat.{ℕ, _≤_, _<_}
 use lib.IntN.{ℤ}
 use lib.ListN.{length}
-use Rattle.summary.specs.declared.Summary.{Summary}
+use Rattle.form.specs.declared.Summary.{Summary}
+use Rattle.worktable.specs.Packed.{rowWidth}
 use Rattle.summary.specs.declared.FragmentReply.{FragmentReply}
 use Rattle.summary.specs.declared.JoinReply.{JoinReply}
 use Rattle.summary.specs.declared.DepthReply.{DepthReply}
@@ -34,9 +35,12 @@ pub record PageCalled (f bytes : List ℕ) (a n : ℕ) : Type 0 where
   pub answer-is : a ≡ pageAnswer reply
   pub number-is : n ≡ pageNumber reply
 
--- a row that is too short to be written
+-- the answer for a row that is too short to be written
+abbrev pub shortRow : ℕ
+shortRow = 17
+
 pub record ShortRow (row : List ℕ) (a n : ℕ) (row′ : List ℕ) : Type 0 where
-  pub answer-is : a ≡ 17
+  pub answer-is : a ≡ shortRow
   pub number-is : n ≡ 0
   pub unchanged : row′ ≡ row
 
@@ -48,8 +52,8 @@ pub record FragmentWritten (f bytes row : List ℕ) (a n : ℕ) (row′ : List �
   pub row-is : row′ ≡ written row (reply .summary)
 
 pub record FragmentCalled (f bytes row : List ℕ) (a n : ℕ) (row′ : List ℕ) : Type 0 where
-  pub short-row : length row < 20 → ShortRow row a n row′
-  pub else-written : 20 ≤ length row → FragmentWritten f bytes row a n row′
+  pub short-row : length row < rowWidth → ShortRow row a n row′
+  pub else-written : rowWidth ≤ length row → FragmentWritten f bytes row a n row′
 
 pub record JoinWritten (f left right row : List ℕ) (a n : ℕ) (row′ : List ℕ) : Type 0 where
   pub first : Summary
@@ -63,8 +67,8 @@ pub record JoinWritten (f left right row : List ℕ) (a n : ℕ) (row′ : List 
   pub row-is : row′ ≡ written row (reply .summary)
 
 pub record JoinCalled (f left right row : List ℕ) (a n : ℕ) (row′ : List ℕ) : Type 0 where
-  pub short-row : length row < 20 → ShortRow row a n row′
-  pub else-written : 20 ≤ length row → JoinWritten f left right row a n row′
+  pub short-row : length row < rowWidth → ShortRow row a n row′
+  pub else-written : rowWidth ≤ length row → JoinWritten f left right row a n row′
 
 pub record DepthCalled (f row : List ℕ) (a n : ℕ) (z : ℤ) : Type 0 where
   pub lent : Summary

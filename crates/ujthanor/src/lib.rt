@@ -1,10 +1,16 @@
 // What C and Rust link: numbers and slices only. Each call hands on to the crate that makes its promise, and lays the reply out in document
-// 01's numbers. A summary is a row of 20 entries in the worktable's layout, its nonterminal part 0. Nothing is asked of what is lent.
+// 01's numbers. A summary is a row in the worktable's layout, its nonterminal part 0. Nothing is asked of what is lent.
 ghost use mathlib.Core.Path.{_≡_};
-ghost use Prim.Native.Nat.{_+_, _≤_};
+ghost use Prim.Native.Nat.{_≤_};
 ghost use lib.ListN.{length};
+ghost use Rattle.pieces.specs.Pieces.{mostTags};
+ghost use Rattle.form.specs.Held.{tagCount};
+ghost use Rattle.worktable.specs.Packed.{rowWidth};
 ghost use Rattle.ujthanor.specs.LentRows.{written, noSummary, StandsFor};
 ghost use Rattle.ujthanor.specs.Calls.{CheckCalled, PageCalled, FragmentCalled, JoinCalled, DepthCalled};
+
+// The answer for a row that is too short for a summary.
+const SHORT_ROW: u32 = 17;
 
 // Checks a template set: the answer, its number and the images; the worktable as `rounds::check` leaves it.
 #[no_mangle]
@@ -33,19 +39,20 @@ pub extern "C" fn ujthanor_page(file: &[u8], bytes: &[u8], number: &mut u64) -> 
     page::answer(r)
 }
 
-// Writes the row of a summary over the first 20 entries.
-fn put_summary(row: &mut [u64], s: summary::Summary)
-    requires { ⌜ 20 ≤ length (now row) ⌝ }
-    requires { ⌜ s .ends + s .starts ≤ 16 ⌝ }
+// Writes the row of a summary over the first entries.
+fn put_summary(row: &mut [u64], s: form::Summary)
+    requires { ⌜ rowWidth ≤ length (now row) ⌝ }
+    requires { ⌜ tagCount (s .counts) ≤ mostTags ⌝ }
     ensures { λ r. ⌜ now (row .exit) ≡ written (now (row .entry)) s ⌝ }
 {
+    let c = s.counts;
     let names = s.names;
-    let relations = s.relations;
-    let packed = worktable::pack(0, s.ends, s.starts, &names, &relations);
-    worktable::add(row, 0, &packed);
+    let values = s.values;
+    let packed = worktable::pack(0, c, &names, &values);
+    rows::add(row, 0, &packed);
 }
 
-// Summarises a fragment: the answer and its number; the summary in the row. A row under 20 entries is refused first, with 17.
+// Summarises a fragment: the answer and its number; the summary in the row. A row that is too short is refused first, with 17.
 #[no_mangle]
 pub extern "C" fn ujthanor_fragment(
     file: &[u8],
@@ -55,9 +62,9 @@ pub extern "C" fn ujthanor_fragment(
 ) -> u32
     ensures { λ r. ⌜ FragmentCalled (now (file .entry)) (now (bytes .entry)) (now (row .entry)) r (now (number .exit)) (now (row .exit)) ⌝ }
 {
-    if row.len() < 20 {
+    if row.len() < worktable::ROW {
         *number = 0;
-        return 17;
+        return SHORT_ROW;
     }
     let r = summary::fragment(file, bytes);
     put_summary(row, r.summary);
@@ -66,40 +73,38 @@ pub extern "C" fn ujthanor_fragment(
     summary::fragment_answer(a)
 }
 
-// A struct of more than 16 tags, which is no summary under any file.
-fn no_summary() -> summary::Summary
+// A struct of more tags than a summary may have, which is no summary under any file.
+fn no_summary() -> form::Summary
     ensures { λ r. ⌜ r ≡ noSummary ⌝ }
 {
-    summary::Summary {
-        ends: 17,
-        starts: 0,
-        names: [0u8; 16],
-        relations: [0u64; 17],
+    form::Summary {
+        counts: form::counted(pieces::TAGS + 1, 0),
+        names: [0u8; pieces::TAGS],
+        values: [0u64; pieces::PIECES],
     }
 }
 
 // The struct that a lent row stands for.
-fn lent(row: &[u64]) -> summary::Summary
+fn lent(row: &[u64]) -> form::Summary
     ensures { λ r. ⌜ StandsFor (now (row .entry)) r ⌝ }
 {
-    if row.len() != 20 {
+    if row.len() != worktable::ROW {
         return no_summary();
     }
     if worktable::nonterminal(row) != 0 {
         return no_summary();
     }
-    let mut names = [0u8; 16];
-    let mut relations = [0u64; 17];
-    let c = worktable::unpack(row, &mut names, &mut relations);
-    summary::Summary {
-        ends: c.ends,
-        starts: c.starts,
+    let mut names = [0u8; pieces::TAGS];
+    let mut values = [0u64; pieces::PIECES];
+    let c = worktable::unpack(row, &mut names, &mut values);
+    form::Summary {
+        counts: c,
         names: names,
-        relations: relations,
+        values: values,
     }
 }
 
-// Joins two summaries: the answer and its number; the joined summary in the row. A row under 20 entries is refused first, with 17.
+// Joins two summaries: the answer and its number; the joined summary in the row. A row that is too short is refused first, with 17.
 #[no_mangle]
 pub extern "C" fn ujthanor_join(
     file: &[u8],
@@ -110,9 +115,9 @@ pub extern "C" fn ujthanor_join(
 ) -> u32
     ensures { λ r. ⌜ JoinCalled (now (file .entry)) (now (left .entry)) (now (right .entry)) (now (row .entry)) r (now (number .exit)) (now (row .exit)) ⌝ }
 {
-    if row.len() < 20 {
+    if row.len() < worktable::ROW {
         *number = 0;
-        return 17;
+        return SHORT_ROW;
     }
     let first = lent(left);
     let second = lent(right);

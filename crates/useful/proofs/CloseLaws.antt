@@ -14,7 +14,8 @@ use Rattle.numbers.proofs.BitLaws.{bit-past, bit-pow, shl-one}
 use Rattle.template.specs.Grammar.{Gives}
 use Rattle.trees.specs.Trees.{Reached, start-reached}
 use Rattle.trees.proofs.MarkLaws.{HasTree, productive-each, all-map, marked-productive, marks-productive, marks-reached}
-use Rattle.useful.specs.Marks.{Ruled, MarksAll, Fruitful, Justified, PassedUp, PassedDown, withMark}
+use Rattle.useful.specs.Marks.{RulesInRange, MarksAll, Justified, PassedUp, PassedDown, withMark}
+use Rattle.trees.specs.Trees.{Productive}
 use Rattle.useful.proofs.SlotLaws.{Marked, marked-each, slot-in, slot-past, slot-low, slot-free}
 use Rattle.useful.proofs.PassLaws.{passed-none, passed-next, passed-end, passed-stays, passed-justified, passed-less}
 use Rattle.useful.proofs.StepLaws.{left-small, all-marked-tests, step-up-on, step-up-off}
@@ -29,12 +30,12 @@ mark-value marks x h = rw (shl-one x 64 h)
 module _ (rules : List ℕ) where
   -- ---- upward: at first nothing is marked
 
-  pub nothing-justified : Justified (Fruitful rules) 0
+  pub nothing-justified : Justified (Productive (Gives rules)) 0
   nothing-justified =
       record { reason = λ x m. absurd (false≢true (sym (bit-past 0 0 x (omega arith) (omega arith)) ∙ m)) }
 
-  pub productive-marked : (marks next : ℕ) → PassedUp rules marks next → next ≡ marks → Justified (Fruitful rules) marks
-      → MarksAll marks (Fruitful rules)
+  pub productive-marked : (marks next : ℕ) → PassedUp rules marks next → next ≡ marks → Justified (Productive (Gives rules)) marks
+      → MarksAll marks (Productive (Gives rules))
   productive-marked marks next p e f x h =
       marks-productive (Gives rules) (Marked marks)
       (λ y rhs (i, hi, el, er) a. rw (← el) (p .kept e .each i hi (rw er (marked-each marks rhs .1 a)))) (f .reason) x
@@ -49,20 +50,20 @@ module _ (rules : List ℕ) where
       record { reason = λ x m. let e : x ≡ 0 = eqb-true x 0 (sym (bit-pow 0 x) ∙ m) in rw e start-reached }
 
   -- a nonterminal that derives some string has a rule, and so a place among the marks
-  pub fruitful-below : Ruled rules → (x : ℕ) → Fruitful rules x → x < 64
-  fruitful-below ruled x t =
-      marked-productive (Gives rules) (λ x. x < 64) (λ y rhs (i, hi, el, er) a. rw (← el) (ruled .left-below i hi)) x t
+  pub productive-below : RulesInRange rules → (x : ℕ) → Productive (Gives rules) x → x < 64
+  productive-below in-range x t =
+      marked-productive (Gives rules) (λ x. x < 64) (λ y rhs (i, hi, el, er) a. rw (← el) (in-range .left-below i hi)) x t
 
-  pub reached-marked : (fruitful marks next : ℕ) → Ruled rules → MarksAll fruitful (Fruitful rules)
-      → PassedDown rules fruitful marks next → next ≡ marks → bit marks 0 ≡ true → Justified (Reached (Gives rules)) marks
+  pub reached-marked : (productive marks next : ℕ) → RulesInRange rules → MarksAll productive (Productive (Gives rules))
+      → PassedDown rules productive marks next → next ≡ marks → bit marks 0 ≡ true → Justified (Reached (Gives rules)) marks
       → MarksAll marks (Reached (Gives rules))
-  reached-marked fruitful marks next ruled all p e z f x h =
+  reached-marked productive marks next in-range all p e z f x h =
       let G = Gives rules in
       marks-reached G (Marked marks) z
       (λ y rhs m (i, hi, el, er) t.
       let trees = productive-each G rhs .0 t in
-      let a = all-map (HasTree G) (Marked fruitful) (λ x u. all x (fruitful-below ruled x u) .1 u) rhs trees in
-      let b = p .kept e .each i hi (rw el m) (rw er (marked-each fruitful rhs .1 a)) in
+      let a = all-map (HasTree G) (Marked productive) (λ x u. all x (productive-below in-range x u) .1 u) rhs trees in
+      let b = p .kept e .each i hi (rw el m) (rw er (marked-each productive rhs .1 a)) in
       marked-each marks rhs .0 (rw er at b)) (f .reason) x
 
 pub ruleset passes = (

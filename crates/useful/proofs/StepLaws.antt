@@ -14,24 +14,25 @@ use Rattle.numbers.specs.Fields.{field}
 use Rattle.numbers.specs.Bits.{bit}
 use Rattle.numbers.proofs.TestLaws.{and-out}
 use Rattle.template.specs.Grammar.{rightSide, Gives}
-use Rattle.trees.specs.Trees.{Productive, Reached}
-use Rattle.trees.proofs.MarkLaws.{AllNonterminals, all-map, all-both, HasTree, all-productive, rule-all-reached, mark-productive}
-use Rattle.useful.specs.Marks.{Ruled, AllMarked, MarksAll, Fruitful, Justified, Passed, KeptUp, KeptDown}
+use Rattle.trees.specs.Trees.{AllProductive, Reached}
+use Rattle.trees.proofs.MarkLaws.{AllNonterminals, all-map, all-both, HasTree, all-productive, productive-each, rule-all-reached, mark-productive}
+use Rattle.useful.specs.Marks.{RulesInRange, AllMarked, MarksAll, Justified, Passed, KeptUp, KeptDown}
+use Rattle.trees.specs.Trees.{Productive}
 use Rattle.useful.specs.Marks.{slotMarked, withMark, withSlot}
 use Rattle.useful.proofs.SlotLaws.{Marked, Slot, right-slots, marked-each, slot-test}
 use Rattle.useful.proofs.PassLaws.{passed-same, passed-map, passed-both, mark-passed, slot-passed}
 
-module _ (rules : List ℕ) (ruled : Ruled rules) (i : ℕ) (hi : i < length rules / 4) where
+module _ (rules : List ℕ) (in-range : RulesInRange rules) (i : ℕ) (hi : i < length rules / 4) where
   -- ---- the fields of a rule
 
   pub left-small : (v : ℕ) → v ≡ field rules i 0 → v < 64
-  left-small v e = rw e (ruled .left-below i hi)
+  left-small v e = rw e (in-range .left-below i hi)
 
   first-small : ltb 0 (field rules i 1) ≡ true → field rules i 2 < 128
-  first-small u = ruled .first-below i hi (ltb-true 0 (field rules i 1) u)
+  first-small u = in-range .first-below i hi (ltb-true 0 (field rules i 1) u)
 
   second-small : ltb 1 (field rules i 1) ≡ true → field rules i 3 < 128
-  second-small u = ruled .second-below i hi (ltb-true 1 (field rules i 1) u)
+  second-small u = in-range .second-below i hi (ltb-true 1 (field rules i 1) u)
 
   pub right-below : AllNonterminals (λ x. x < 64) (rightSide rules i)
   right-below =
@@ -57,50 +58,58 @@ module _ (rules : List ℕ) (ruled : Ruled rules) (i : ℕ) (hi : i < length rul
 
   module _ (marks : ℕ) (t : Bool) (test : (t ≡ true) ↔ AllMarked (bit marks) (rightSide rules i)) where
     pub step-up-on : (v next : ℕ) → t ≡ true → v ≡ field rules i 0 → next ≡ withMark marks v
-        → Passed (Fruitful rules) (KeptUp rules i) marks next
+        → Passed (Productive (Gives rules)) (KeptUp rules i) marks next
     step-up-on v next on ev en =
         let left = field rules i 0 in
         let a = marked-each marks (rightSide rules i) .0 (test .0 on) in
         rw (en, ev)
-        (passed-map (Fruitful rules) (λ m. Marked m left) (KeptUp rules i) marks (withMark marks left) (λ m b. m)
-        (mark-passed (Fruitful rules) marks left (λ f. mark-productive (Gives rules) (Marked marks) (f .reason) (i, hi, refl, refl) a)))
+        (passed-map (Productive (Gives rules)) (λ m. Marked m left) (KeptUp rules i) marks (withMark marks left) (λ m b. m)
+        (mark-passed (Productive (Gives rules)) marks left (λ f. mark-productive (Gives rules) (Marked marks) (f .reason) (i, hi, refl, refl) a)))
 
-    pub step-up-off : t ≡ false → Passed (Fruitful rules) (KeptUp rules i) marks marks
+    pub step-up-off : t ≡ false → Passed (Productive (Gives rules)) (KeptUp rules i) marks marks
     step-up-off off =
-        passed-same (Fruitful rules) (KeptUp rules i) marks (λ a. absurd (false≢true (sym off ∙ test .1 a)))
+        passed-same (Productive (Gives rules)) (KeptUp rules i) marks (λ a. absurd (false≢true (sym off ∙ test .1 a)))
 
   -- ---- a step downward
 
-  module _ (fruitful : ℕ) (all : MarksAll fruitful (Fruitful rules)) where
-    pub right-productive : AllMarked (bit fruitful) (rightSide rules i) → Productive (Gives rules) (rightSide rules i)
+  module _ (productive : ℕ) (all : MarksAll productive (Productive (Gives rules))) where
+    pub right-productive : AllMarked (bit productive) (rightSide rules i) → AllProductive (Gives rules) (rightSide rules i)
     right-productive a =
         let ss = rightSide rules i in
-        let both = all-both (λ x. x < 64) (Marked fruitful) ss right-below (marked-each fruitful ss .0 a) in
+        let both = all-both (λ x. x < 64) (Marked productive) ss right-below (marked-each productive ss .0 a) in
         all-productive (Gives rules) ss
-        (all-map (λ x. (x < 64) × Marked fruitful x) (HasTree (Gives rules)) (λ x (h, m). all x h .0 m) ss both)
+        (all-map (λ x. (x < 64) × Marked productive x) (HasTree (Gives rules)) (λ x (h, m). all x h .0 m) ss both)
+
+    -- and back: no mark is missing
+    pub right-marked : AllProductive (Gives rules) (rightSide rules i) → AllMarked (bit productive) (rightSide rules i)
+    right-marked t =
+        let ss = rightSide rules i in
+        let both = all-both (λ x. x < 64) (HasTree (Gives rules)) ss right-below (productive-each (Gives rules) ss .0 t) in
+        marked-each productive ss .1
+        (all-map (λ x. (x < 64) × HasTree (Gives rules) x) (Marked productive) (λ x (h, u). all x h .1 u) ss both)
 
     -- the nonterminals of the right side are reached, as far as the marks are
-    right-reached : AllMarked (bit fruitful) (rightSide rules i) → (m : ℕ) → Marked m (field rules i 0)
+    right-reached : AllMarked (bit productive) (rightSide rules i) → (m : ℕ) → Marked m (field rules i 0)
         → Justified (Reached (Gives rules)) m → AllNonterminals (Reached (Gives rules)) (rightSide rules i)
     right-reached a m t f =
         rule-all-reached (Gives rules) (f .reason (field rules i 0) t) (i, hi, refl, refl) (right-productive a)
 
-    pub step-down-right-off : (marks : ℕ) (u : Bool) → (u ≡ true) ↔ AllMarked (bit fruitful) (rightSide rules i) → u ≡ false
-        → Passed (Reached (Gives rules)) (KeptDown rules fruitful i) marks marks
+    pub step-down-right-off : (marks : ℕ) (u : Bool) → (u ≡ true) ↔ AllMarked (bit productive) (rightSide rules i) → u ≡ false
+        → Passed (Reached (Gives rules)) (KeptDown rules productive i) marks marks
     step-down-right-off marks u test off =
-        passed-same (Reached (Gives rules)) (KeptDown rules fruitful i) marks (λ m a. absurd (false≢true (sym off ∙ test .1 a)))
+        passed-same (Reached (Gives rules)) (KeptDown rules productive i) marks (λ m a. absurd (false≢true (sym off ∙ test .1 a)))
 
     module _ (marks v : ℕ) (t : Bool) (ev : v ≡ field rules i 0) (et : t ≡ bit marks v) where
-      pub step-down-left-off : t ≡ false → Passed (Reached (Gives rules)) (KeptDown rules fruitful i) marks marks
+      pub step-down-left-off : t ≡ false → Passed (Reached (Gives rules)) (KeptDown rules productive i) marks marks
       step-down-left-off off =
           let e : bit marks (field rules i 0) ≡ false = rw (← ev, ← et) off in
-          passed-same (Reached (Gives rules)) (KeptDown rules fruitful i) marks (λ m a. absurd (false≢true (sym e ∙ m)))
+          passed-same (Reached (Gives rules)) (KeptDown rules productive i) marks (λ m a. absurd (false≢true (sym e ∙ m)))
 
       pub step-down-on : (u : Bool) (n b d m next : ℕ) → t ≡ true
-          → (u ≡ true) ↔ AllMarked (bit fruitful) (rightSide rules i) → u ≡ true
+          → (u ≡ true) ↔ AllMarked (bit productive) (rightSide rules i) → u ≡ true
           → n ≡ field rules i 1 → b ≡ field rules i 2 → d ≡ field rules i 3
           → m ≡ withSlot (ltb 0 n) b marks → next ≡ withSlot (ltb 1 n) d m
-          → Passed (Reached (Gives rules)) (KeptDown rules fruitful i) marks next
+          → Passed (Reached (Gives rules)) (KeptDown rules productive i) marks next
       step-down-on u n b d m next on test on′ en eb ed em ex =
           let R = Reached (Gives rules) in
           let used = ltb 0 (field rules i 1) in
@@ -114,7 +123,7 @@ module _ (rules : List ℕ) (ruled : Ruled rules) (i : ℕ) (hi : i < length rul
           (λ f. slots .0 (reached m′ (first .stay (field rules i 0) left) f) .1) in
           rw (ex, em, en, eb, ed)
           (passed-map R (λ k. Slot (Marked k) used (field rules i 2) × Slot (Marked k) used′ (field rules i 3))
-          (KeptDown rules fruitful i) marks (withSlot used′ (field rules i 3) m′)
+          (KeptDown rules productive i) marks (withSlot used′ (field rules i 3) m′)
           (λ s l a. marked-each marks (rightSide rules i) .1 (right-slots (Marked marks) rules i .1 s))
           (passed-both R (λ k. Slot (Marked k) used (field rules i 2)) (λ k. Slot (Marked k) used′ (field rules i 3)) marks m′
           (withSlot used′ (field rules i 3) m′) first second))

@@ -12,29 +12,30 @@ use lib.ListN.{length}
 use borrow.Author.Tests.{lt-ltb}
 use Rattle.numbers.specs.Fields.{field}
 use Rattle.numbers.specs.Bits.{bit}
-use Rattle.template.specs.Layout.{names, nonterminals, templateRules}
+use Rattle.template.specs.Layout.{nameCount, nonterminals, templateRules}
 use Rattle.template.specs.Grammar.{Symbol, tag, nonterminal, rightSide, Gives}
 use Rattle.template.proofs.SoundLaws.{SoundFile}
 use Rattle.template.proofs.ListLaws.{rules-count}
 use Rattle.template.proofs.GrammarLaws.{SymbolsBelow, rule-below}
 use Rattle.trees.specs.Trees.{Reached, start-reached, rule-reached, Useful}
 use Rattle.trees.proofs.MarkLaws.{AllNonterminals, all-place, HasTree, productive-each}
-use Rattle.useful.specs.Marks.{Ruled, MarksAll, Fruitful}
+use Rattle.useful.specs.Marks.{RulesInRange, MarksAll}
+use Rattle.trees.specs.Trees.{Productive}
 use Rattle.useful.proofs.SlotLaws.{Slot, right-slots}
 
 -- ---- what is reached is useful
 
-pub reached-fruitful : (rules : List ℕ) → Fruitful rules 0 → {x : ℕ} → Reached (Gives rules) x → Fruitful rules x
-reached-fruitful rules t start-reached = t
-reached-fruitful rules t (rule-reached {y = y} l r c rule p) =
+pub reached-productive : (rules : List ℕ) → Productive (Gives rules) 0 → {x : ℕ} → Reached (Gives rules) x → Productive (Gives rules) x
+reached-productive rules t start-reached = t
+reached-productive rules t (rule-reached {y = y} l r c rule p) =
     all-place (HasTree (Gives rules)) l r y (productive-each (Gives rules) _ .0 p)
 
-pub marks-useful : (rules : List ℕ) (fruitful reached : ℕ) → MarksAll fruitful (Fruitful rules) → bit fruitful 0 ≡ true
+pub marks-useful : (rules : List ℕ) (productive reached : ℕ) → MarksAll productive (Productive (Gives rules)) → bit productive 0 ≡ true
     → MarksAll reached (Reached (Gives rules)) → MarksAll reached (Useful (Gives rules))
-marks-useful rules fruitful reached all start marks x h = (
+marks-useful rules productive reached all start marks x h = (
   λ m.
       let c = marks x h .0 m in
-      (reached-fruitful rules (all 0 (omega arith) .0 start) c, c),
+      (reached-productive rules (all 0 (omega arith) .0 start) c, c),
   λ u. marks x h .1 (u .1),
 )
 
@@ -54,10 +55,10 @@ module _ (f : List ℕ) (s : SoundFile f) where
       × AllNonterminals (λ x. x < nonterminals f) (rightSide (templateRules f) i)
   rule-at i h =
       let p = rule-below f s i (rw (rules-count f s) at h) in
-      (p .0, symbols-nonterminals (names f) (nonterminals f) (rightSide (templateRules f) i) (p .2))
+      (p .0, symbols-nonterminals (nameCount f) (nonterminals f) (rightSide (templateRules f) i) (p .2))
 
-  pub sound-ruled : Ruled (templateRules f)
-  sound-ruled =
+  pub sound-in-range : RulesInRange (templateRules f)
+  sound-in-range =
       let rules = templateRules f in
       let N = nonterminals f in
       record {

@@ -29,7 +29,7 @@ unfoldable pub withSlot : Bool → ℕ → ℕ → ℕ
 withSlot used byte marks = atSlot used byte (withMark marks (byte - 64)) marks
 
 -- the rules are those of a sound file, as far as marks need it
-pub record Ruled (rules : List ℕ) : Type 0 where
+pub record RulesInRange (rules : List ℕ) : Type 0 where
   pub left-below : (i : ℕ) → i < length rules / 4 → field rules i 0 < 64
   pub first-below : (i : ℕ) → i < length rules / 4 → 0 < field rules i 1 → field rules i 2 < 128
   pub second-below : (i : ℕ) → i < length rules / 4 → 1 < field rules i 1 → field rules i 3 < 128
@@ -43,10 +43,6 @@ AllMarked m (nonterminal x ∷ ss) = (m x ≡ true) × AllMarked m ss
 -- the marks are exactly the nonterminals, of 64, with the property
 abbrev pub MarksAll : ℕ → (ℕ → Type 0) → Type 0
 MarksAll marks P = (x : ℕ) → x < 64 → (bit marks x ≡ true) ↔ P x
-
--- the nonterminal derives some tag string
-abbrev pub Fruitful : List ℕ → ℕ → Type 0
-Fruitful rules x = Productive (Gives rules) (nonterminal x ∷ [])
 
 -- each mark is of a nonterminal with the property
 pub record Justified (P : ℕ → Type 0) (marks : ℕ) : Type 0 where
@@ -69,13 +65,13 @@ KeptUp rules i marks = AllMarked (bit marks) (rightSide rules i) → bit marks (
 
 -- where its left side is marked and its right side is productive, the rule's right side is all marked
 abbrev pub KeptDown : List ℕ → ℕ → ℕ → ℕ → Type 0
-KeptDown rules fruitful i marks =
-    bit marks (field rules i 0) ≡ true → AllMarked (bit fruitful) (rightSide rules i) → AllMarked (bit marks) (rightSide rules i)
+KeptDown rules productive i marks =
+    bit marks (field rules i 0) ≡ true → AllMarked (bit productive) (rightSide rules i) → AllMarked (bit marks) (rightSide rules i)
 
 -- a whole pass keeps every rule
 abbrev pub PassedUp : List ℕ → ℕ → ℕ → Type 0
-PassedUp rules marks next = Passed (Fruitful rules) (KeptBelow (KeptUp rules) (length rules / 4)) marks next
+PassedUp rules marks next = Passed (Productive (Gives rules)) (KeptBelow (KeptUp rules) (length rules / 4)) marks next
 
 abbrev pub PassedDown : List ℕ → ℕ → ℕ → ℕ → Type 0
-PassedDown rules fruitful marks next =
-    Passed (Reached (Gives rules)) (KeptBelow (KeptDown rules fruitful) (length rules / 4)) marks next
+PassedDown rules productive marks next =
+    Passed (Reached (Gives rules)) (KeptBelow (KeptDown rules productive) (length rules / 4)) marks next

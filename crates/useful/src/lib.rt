@@ -8,7 +8,8 @@ ghost use lib.ListN.{length};
 ghost use Rattle.numbers.specs.Bits.{bit};
 ghost use Rattle.template.specs.Grammar.{rightSide, Gives};
 ghost use Rattle.trees.specs.Trees.{Reached};
-ghost use Rattle.useful.specs.Marks.{slotMarked, withMark, withSlot, Ruled, AllMarked, MarksAll, Fruitful, Passed};
+ghost use Rattle.useful.specs.Marks.{slotMarked, withMark, withSlot, RulesInRange, AllMarked, MarksAll, Passed};
+ghost use Rattle.trees.specs.Trees.{Productive};
 ghost use Rattle.useful.specs.Marks.{KeptUp, KeptDown, PassedUp, PassedDown};
 
 // Is the nonterminal marked?
@@ -42,8 +43,8 @@ fn symbol_marked(used: bool, byte: usize, marks: u64) -> bool
 }
 
 // Are all nonterminals of rule i's right side marked?
-fn all_marked(rules: &[u8], i: usize, marks: u64) -> bool
-    requires { ⌜ Ruled (now rules) ⌝ }
+pub fn all_marked(rules: &[u8], i: usize, marks: u64) -> bool
+    requires { ⌜ RulesInRange (now rules) ⌝ }
     requires { ⌜ i < length (now rules) / 4 ⌝ }
     ensures { λ r. ⌜ (r ≡ true) ↔ AllMarked (bit marks) (rightSide (now (rules .entry)) i) ⌝ }
 {
@@ -54,9 +55,9 @@ fn all_marked(rules: &[u8], i: usize, marks: u64) -> bool
 
 // The marks with the left side of rule i, where its right side is all marked.
 fn step_up(rules: &[u8], i: usize, marks: u64) -> u64
-    requires { ⌜ Ruled (now rules) ⌝ }
+    requires { ⌜ RulesInRange (now rules) ⌝ }
     requires { ⌜ i < length (now rules) / 4 ⌝ }
-    ensures { λ r. ⌜ Passed (Fruitful (now (rules .entry))) (KeptUp (now (rules .entry)) i) marks r ⌝ }
+    ensures { λ r. ⌜ Passed (Productive (Gives (now (rules .entry)))) (KeptUp (now (rules .entry)) i) marks r ⌝ }
 {
     if all_marked(rules, i, marks) {
         return mark(marks, numbers::field(rules, i, 0));
@@ -66,7 +67,7 @@ fn step_up(rules: &[u8], i: usize, marks: u64) -> u64
 
 // One pass: the left side of each rule whose right side is all marked.
 fn pass_up(rules: &[u8], marks: u64) -> u64
-    requires { ⌜ Ruled (now rules) ⌝ }
+    requires { ⌜ RulesInRange (now rules) ⌝ }
     ensures { λ r. ⌜ PassedUp (now (rules .entry)) marks r ⌝ }
 {
     let mut m = marks;
@@ -80,8 +81,8 @@ fn pass_up(rules: &[u8], marks: u64) -> u64
 
 // The nonterminals that derive some tag string.
 pub fn productive(rules: &[u8]) -> u64
-    requires { ⌜ Ruled (now rules) ⌝ }
-    ensures { λ r. ⌜ MarksAll r (Fruitful (now (rules .entry))) ⌝ }
+    requires { ⌜ RulesInRange (now rules) ⌝ }
+    ensures { λ r. ⌜ MarksAll r (Productive (Gives (now (rules .entry)))) ⌝ }
 {
     let mut m = 0u64;
     loop {
@@ -108,14 +109,14 @@ fn mark_symbol(used: bool, byte: usize, marks: u64) -> u64
 }
 
 // The marks with the nonterminals of rule i's right side, where its left side is marked and its right side is productive.
-fn step_down(rules: &[u8], fruitful: u64, i: usize, marks: u64) -> u64
-    requires { ⌜ Ruled (now rules) ⌝ }
-    requires { ⌜ MarksAll fruitful (Fruitful (now rules)) ⌝ }
+fn step_down(rules: &[u8], productive: u64, i: usize, marks: u64) -> u64
+    requires { ⌜ RulesInRange (now rules) ⌝ }
+    requires { ⌜ MarksAll productive (Productive (Gives (now rules))) ⌝ }
     requires { ⌜ i < length (now rules) / 4 ⌝ }
-    ensures { λ r. ⌜ Passed (Reached (Gives (now (rules .entry)))) (KeptDown (now (rules .entry)) fruitful i) marks r ⌝ }
+    ensures { λ r. ⌜ Passed (Reached (Gives (now (rules .entry)))) (KeptDown (now (rules .entry)) productive i) marks r ⌝ }
 {
     if marked(marks, numbers::field(rules, i, 0)) {
-        if all_marked(rules, i, fruitful) {
+        if all_marked(rules, i, productive) {
             let n = numbers::field(rules, i, 1);
             let m = mark_symbol(0 < n, numbers::field(rules, i, 2), marks);
             return mark_symbol(1 < n, numbers::field(rules, i, 3), m);
@@ -125,29 +126,29 @@ fn step_down(rules: &[u8], fruitful: u64, i: usize, marks: u64) -> u64
 }
 
 // One pass: the nonterminals of each right side that is productive, of a marked left side.
-fn pass_down(rules: &[u8], fruitful: u64, marks: u64) -> u64
-    requires { ⌜ Ruled (now rules) ⌝ }
-    requires { ⌜ MarksAll fruitful (Fruitful (now rules)) ⌝ }
-    ensures { λ r. ⌜ PassedDown (now (rules .entry)) fruitful marks r ⌝ }
+fn pass_down(rules: &[u8], productive: u64, marks: u64) -> u64
+    requires { ⌜ RulesInRange (now rules) ⌝ }
+    requires { ⌜ MarksAll productive (Productive (Gives (now rules))) ⌝ }
+    ensures { λ r. ⌜ PassedDown (now (rules .entry)) productive marks r ⌝ }
 {
     let mut m = marks;
     let mut i = 0;
     while i < rules.len() / 4 {
-        m = step_down(rules, fruitful, i, m);
+        m = step_down(rules, productive, i, m);
         i += 1;
     }
     m
 }
 
 // The nonterminals that the start reaches through rules whose nonterminals all derive some.
-pub fn reached(rules: &[u8], fruitful: u64) -> u64
-    requires { ⌜ Ruled (now rules) ⌝ }
-    requires { ⌜ MarksAll fruitful (Fruitful (now rules)) ⌝ }
+pub fn reached(rules: &[u8], productive: u64) -> u64
+    requires { ⌜ RulesInRange (now rules) ⌝ }
+    requires { ⌜ MarksAll productive (Productive (Gives (now rules))) ⌝ }
     ensures { λ r. ⌜ MarksAll r (Reached (Gives (now (rules .entry)))) ⌝ }
 {
     let mut m = 1u64;
     loop {
-        let next = pass_down(rules, fruitful, m);
+        let next = pass_down(rules, productive, m);
         if next == m {
             return m;
         }

@@ -1,9 +1,12 @@
 pub mod SlotLaws
 pub mod ValidLaws
+pub mod ChoiceLaws
+pub mod NewsLaws
 pub mod ProgressLaws
+pub mod NotedLaws
 pub mod OutcomeLaws
-pub mod ShareLaws
 pub mod PairingLaws
+pub mod PlaceLaws
 pub mod VisitLaws
 pub mod JoinedLaws
 pub mod RoundLaws

@@ -1,147 +1,82 @@
--- The laws of the walk (VisitLaws.antt, JoinedLaws.antt) in the words of `walk_round`: what is lent is collected in one record, what is
--- known at a rule in another, and each stage of the loops leads from one place of the walk to the next. Numbers and slots that the code
--- computes are variables, with equations in the records. Assumes nothing.
+-- The walk's stages (VisitLaws.antt, JoinedLaws.antt) in the words of `walk_round`: the choices of a rule that is walked can be loaded, and
+-- a turn leads to the next right choice or stops the walk. A loop leads from the place where it begins to the place where it stands,
+-- whatever table the walk began from, since an inner loop cannot name it (`Leads`). Assumes nothing.
 use mathlib.Core.Path.{_≡_, refl}
 use mathlib.Core.Bool.{Bool, true, false}
 use mathlib.Core.List.{List}
-use Prim.Native.Nat.{ℕ, _+_, _/_, _≤_, _<_}
+use Prim.Native.Nat.{ℕ, _+_, _*_, _≤_, _<_}
 use native.Mathlib.Omega.{arith}
 use lib.Dec.{ltb}
 use lib.ListN.{length}
-use borrow.Author.Tests.{ltb-true, lt-ltb, le-ltb}
-use Rattle.hedge.specs.Schema.{RulesBelow, EndsBelow}
-use Rattle.template.specs.Grammar.{Gives}
-use Rattle.form.specs.Steps.{Schooled}
-use Rattle.trees.specs.Trees.{Useful}
-use Rattle.useful.specs.Marks.{Ruled, MarksAll}
-use Rattle.pairs.specs.Slots.{leftSlot, rightSlot, choices, newFrom}
-use Rattle.walk.specs.Shares.{Sharing}
-use Rattle.walk.specs.Walks.{Tidy, Ready, Walked}
-use Rattle.pairs.specs.Turns.{slotFits, leftsOf, leftFrom, rightFrom, Choosable, Turned}
+use borrow.Author.Tests.{ltb-true}
+use Rattle.numbers.proofs.TestLaws.{and-out}
+use Rattle.worktable.specs.Packed.{rowWidth}
+use Rattle.pairs.specs.Books.{bookOf}
+use Rattle.pairs.specs.Slots.{choices}
+use Rattle.pairs.specs.Turns.{leftsOf, Choosable, Turned}
 use Rattle.pairs.specs.declared.Slot.{Slot}
 use Rattle.pairs.specs.declared.Slot.the-variants.{Absent, Single, Rows}
-use Rattle.pairs.specs.declared.Notes.{Notes}
+use Rattle.pairs.specs.declared.Tally.{Tally}
 use Rattle.pairs.specs.declared.Turn.{Turn}
 use Rattle.pairs.specs.declared.Turn.the-variants.{Kept, Mismatch}
-use Rattle.walk.specs.declared.Walk.the-variants.{Stopped, Went}
+use Rattle.walk.specs.Walks.{ProperRows, Walked}
+use Rattle.walk.specs.declared.Round.{Round}
+use Rattle.walk.specs.declared.Walk.the-variants.{Stopped}
 use Rattle.walk.proofs.ProgressLaws.{no-notes}
-use Rattle.walk.proofs.VisitLaws.{Going, going-start, left-start, right-start, right-end, left-end, walk-end}
+use Rattle.walk.proofs.PlaceLaws.{LentParts, RuleParts, AtRule, walkedAt, Begun, Place, place, Going, going-start}
 use Rattle.walk.proofs.JoinedLaws.{AfterTurn, joined-next}
 
--- what the walk is lent
-pub record LentParts (states : ℕ) (rules schema endings : List ℕ) (empty useful : ℕ) : Type 0 where
-  pub schooled : Schooled states schema endings empty
-  pub rules-below : RulesBelow states schema
-  pub ends-below : EndsBelow states endings
-  pub ruled : Ruled rules
-  pub useful-marks : MarksAll useful (Useful (Gives rules))
+-- from one place to another
+pub record Leads (lore rules : List ℕ) (round : Round) (fresh : ℕ) (p q : Place) : Type 0 where
+  pub same-length : length (q .table) ≡ length (p .table)
+  pub goes : (t₀ : List ℕ) → Going lore rules round fresh t₀ p → Going lore rules round fresh t₀ q
 
--- what the walk knows at rule i
-pub record AtRule (rules : List ℕ) (useful prev n : ℕ) (first : Bool) (i marks : ℕ) (left right : Slot) (lefts rights newLeft newRight : ℕ)
-    : Type 0 where
-  pub is-rule : i < length rules / 4
-  pub sharing : Sharing rules useful i marks
-  pub left-is : left ≡ leftSlot rules i
-  pub right-is : right ≡ rightSlot rules i
-  pub lefts-is : lefts ≡ leftsOf (ltb 0 marks) (choices left n)
-  pub rights-is : rights ≡ choices right n
-  pub new-left : newLeft ≡ newFrom left prev first
-  pub new-right : newRight ≡ newFrom right prev first
-
--- a left choice below the number of those that are walked is one, and some nonterminal is marked for the rule
-pub lefts-below : (walked : Bool) (j lefts all : ℕ) → lefts ≡ leftsOf walked all → j < lefts → (walked ≡ true) × (j < all)
+-- a left choice below the number of those that are walked is one, and the rule is walked
+lefts-below : (walked : Bool) (j lefts all : ℕ) → lefts ≡ leftsOf walked all → j < lefts → (walked ≡ true) × (j < all)
 lefts-below true j lefts all e l = (refl, rw e at l)
 lefts-below false j lefts all e l = absurd (omega arith)
 
--- where some right choice is new every left choice is walked, else the new ones
-module _ (newLeft newRight rights : ℕ) where
-  pub left-all : newRight < rights → 0 ≡ leftFrom (ltb newRight rights) newLeft
-  left-all l = rw (lt-ltb newRight rights l)
+-- at the start, by what the loops have of it
+pub going-begun : {lore rules t₀ : List ℕ} {round : Round} {fresh i : ℕ} {t : List ℕ} {found : Tally} → Begun lore rules t₀ round fresh
+    → t ≡ t₀ → found ≡ no-notes (round .rows) → i ≡ 0 → Going lore rules round fresh t₀ (place i 0 0 t found)
+going-begun begun e f g = rw (e, f, g) (going-start begun)
 
-  pub left-new : rights ≤ newRight → newLeft ≡ leftFrom (ltb newRight rights) newLeft
-  left-new l = rw (le-ltb newRight rights l)
+pub news-room : {lore rules t₀ : List ℕ} {n : ℕ} → ProperRows lore rules (bookOf t₀ n) → n * rowWidth ≤ length t₀
+news-room proper = omega (arith, proper .room, proper .few)
 
-module _ {states : ℕ} {rules schema endings : List ℕ} where
-  pub choosable : (t : List ℕ) (n m : ℕ) → Tidy states rules schema endings t m → n ≤ m → (slot : Slot) (k : ℕ) → k < choices slot n
-      → Choosable t slot k
-  choosable t n m tidy h Absent k l = tt
-  choosable t n m tidy h (Single closes a) k l = tt
-  choosable t n m tidy h (Rows x) k l =
-      let (p, r, g) = tidy .proper k (omega arith) in
-      (omega (arith, tidy .room, tidy .few), (p, r))
+module _ {lore rules shares : List ℕ} (lent : LentParts lore rules shares) {round : Round} {fresh : ℕ} {p : Place} {parts : RuleParts}
+    (rule : AtRule rules round fresh (p .i) parts) {t₀ : List ℕ} (going : Going lore rules round fresh t₀ p) where
+  -- the choices can be loaded
 
-  -- at the start, by what the loops have of it
-  pub going-begun : {t₀ : List ℕ} {prev n : ℕ} {first : Bool} {i : ℕ} {t : List ℕ} {m : ℕ} {notes : Notes}
-      → Tidy states rules schema endings t₀ n → Ready states rules schema endings t₀ prev n first → t ≡ t₀ → m ≡ n → notes ≡ no-notes
-      → i ≡ 0 → Going states rules schema endings t₀ prev n first i 0 0 t m notes
-  going-begun {t₀ = t₀} {prev = prev} {n = n} {first = first} tidy ready e f g h =
-      rw (e, f, g, h) (going-start states rules schema endings t₀ prev n first tidy ready)
+  choosable : (slot : Slot) (k : ℕ) → k < choices slot (round .rows) → Choosable (p .table) slot k
+  choosable Absent k l = tt
+  choosable (Single closes a) k l = tt
+  choosable (Rows x) k l =
+      let grown = going .sofar .grown in
+      let (q, r, g) = grown .proper-rows .proper k (omega (arith, grown .more)) in
+      (omega (arith, grown .proper-rows .room, grown .proper-rows .few, grown .more), (q, r))
 
-  module _ {empty useful : ℕ} (lent : LentParts states rules schema endings empty useful) {prev n : ℕ} {first : Bool} where
-    -- after the last rule
-    pub round-end : {i m : ℕ} {t₀ t : List ℕ} {notes : Notes} → Going states rules schema endings t₀ prev n first i 0 0 t m notes
-        → length rules / 4 ≤ i → Walked states rules schema endings t₀ n (Went m notes) t
-    round-end {i = i} {m = m} {t₀ = t₀} {t = t} {notes = notes} going h =
-        walk-end states rules schema endings t₀ prev n first i 0 0 t m notes going (lent .schooled .few) (lent .rules-below)
-        (lent .ends-below) h
+  pub left-choosable : p .j < parts .lefts → Choosable (p .table) (parts .left) (p .j)
+  left-choosable l =
+      choosable (parts .left) (p .j)
+      (lefts-below (walkedAt round fresh parts) (p .j) (parts .lefts) (choices (parts .left) (round .rows)) (rule .lefts-is) l .1)
 
-    module _ {i marks : ℕ} {left right : Slot} {lefts rights newLeft newRight : ℕ}
-        (rule : AtRule rules useful prev n first i marks left right lefts rights newLeft newRight) where
-      module _ {t₀ : List ℕ} {j k : ℕ} {t : List ℕ} {m : ℕ} {notes : Notes}
-          (going : Going states rules schema endings t₀ prev n first i j k t m notes) where
-        -- after the last left choice
-        pub stage-rule : k ≡ 0 → lefts ≤ j → Going states rules schema endings t₀ prev n first (i + 1) 0 0 t m notes
-        stage-rule z h =
-            left-end states rules schema endings t₀ prev n first i j k t m notes going useful lefts marks (lent .useful-marks)
-            (lent .ruled) (rule .sharing) (rw (← (rule .left-is)) (rule .lefts-is)) h z
+  pub right-choosable : p .k < parts .rights → Choosable (p .table) (parts .right) (p .k)
+  right-choosable l = choosable (parts .right) (p .k) (rw (rule .rights-is) at l)
 
-        -- the first left choice
-        pub stage-start : j ≡ 0 → k ≡ 0 → (j′ : ℕ) → j′ ≡ leftFrom (ltb newRight rights) newLeft
-            → Going states rules schema endings t₀ prev n first i j′ 0 t m notes
-        stage-start y z j′ e =
-            left-start states rules schema endings t₀ prev n first i j k t m notes going j′ newLeft newRight rights y z
-            (rw (← (rule .left-is)) (rule .new-left)) (rw (← (rule .right-is)) (rule .new-right))
-            (rw (← (rule .right-is)) (rule .rights-is)) e (lent .schooled .few) (lent .rules-below) (lent .ends-below)
+  -- one pair more
+  module _ (l : p .j < parts .lefts) (h : p .k < parts .rights) {r : Turn} {t : List ℕ}
+      (turned : Turned lore (p .table) (record { left = parts .left; j = p .j; right = parts .right; k = p .k }) (parts .marks) (p .found) r t)
+    where
+      after-turn : AfterTurn lore rules round fresh t₀ p r t
+      after-turn =
+          let (e, f) =
+          lefts-below (walkedAt round fresh parts) (p .j) (parts .lefts) (choices (parts .left) (round .rows)) (rule .lefts-is) l in
+          joined-next going lent rule (ltb-true 0 (parts .marks) (and-out (ltb 0 (parts .marks)) e .0)) (rw (← (rule .left-is)) f)
+          (rw (← (rule .right-is), ← (rule .rights-is)) h) r t (rw (rule .left-is, rule .right-is) at turned)
 
-        -- the first right choice
-        pub stage-right : k ≡ 0 → (k′ : ℕ) → k′ ≡ rightFrom (slotFits left j t) (ltb j newLeft) newRight rights
-            → Going states rules schema endings t₀ prev n first i j k′ t m notes
-        stage-right z k′ e =
-            right-start states rules schema endings t₀ prev n first i j k t m notes going k′ newLeft newRight rights z
-            (rw (← (rule .left-is)) (rule .new-left)) (rw (← (rule .right-is)) (rule .new-right)) (rw (← (rule .left-is)) e)
-            (lent .schooled .few) (lent .rules-below) (lent .ends-below)
+      pub turn-kept : {found : Tally} → r ≡ Kept found → Going lore rules round fresh t₀ (place (p .i) (p .j) (p .k + 1) t found)
+      turn-kept e = rw e at after-turn
 
-        -- after the last right choice
-        pub stage-left : rights ≤ k → Going states rules schema endings t₀ prev n first i (j + 1) 0 t m notes
-        stage-left h =
-            right-end states rules schema endings t₀ prev n first i j k t m notes going rights
-            (rw (← (rule .right-is)) (rule .rights-is)) h
-
-        -- the choices can be loaded
-
-        pub left-choosable : j < lefts → Choosable t left j
-        left-choosable l =
-            choosable t n m (going .sofar .grown .tidy) (going .sofar .grown .more) left j
-            (lefts-below (ltb 0 marks) j lefts (choices left n) (rule .lefts-is) l .1)
-
-        pub right-choosable : k < rights → Choosable t right k
-        right-choosable l =
-            choosable t n m (going .sofar .grown .tidy) (going .sofar .grown .more) right k (rw (rule .rights-is) at l)
-
-        -- one pair more
-        module _ (l : j < lefts) (h : k < rights) {r : Turn} {t′ : List ℕ}
-            (turned : Turned states schema endings empty t left j right k marks m notes r t′) where
-          after-turn : AfterTurn states rules schema endings t₀ prev n first i j k t m notes going r t′
-          after-turn =
-              let (e, f) = lefts-below (ltb 0 marks) j lefts (choices left n) (rule .lefts-is) l in
-              joined-next states rules schema endings t₀ prev n first i j k t m notes going (lent .schooled .few) (lent .rules-below)
-              (lent .ends-below) useful marks (rule .is-rule) (lent .useful-marks) (lent .ruled) (rule .sharing) (ltb-true 0 marks e)
-              (rw (← (rule .left-is)) f) (rw (← (rule .right-is), ← (rule .rights-is)) h) r t′
-              (rw (lent .schooled .empty-word, rule .left-is, rule .right-is) at turned)
-
-          pub stage-kept : {m′ : ℕ} {notes′ : Notes} → r ≡ Kept m′ notes′
-              → Going states rules schema endings t₀ prev n first i j (k + 1) t′ m′ notes′
-          stage-kept e = rw e at after-turn
-
-          pub stage-stop : r ≡ Mismatch → Walked states rules schema endings t₀ n Stopped t′
-          stage-stop e = rw e at after-turn
+      pub turn-stops : r ≡ Mismatch → Walked lore rules (bookOf t₀ (round .rows)) Stopped t
+      turn-stops e = rw e at after-turn

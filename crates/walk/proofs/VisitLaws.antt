@@ -1,8 +1,7 @@
--- Where the walk stands (specs/Walks.antt): at rule i, left choice j and right choice k it has seen every pairing of the rules before, of
--- rule i with the left choices before j, and of left choice j with the right choices before k. The end of a loop and the choices that are
--- passed over each lead on: those are of a left choice that does not fit, or pair two old choices, whose outcome is settled; a rule for which
--- no nonterminal is marked has no pairings. Assumes nothing.
-use mathlib.Core.Path.{_≡_, refl, sym, ap, _∙_}
+-- From place to place in the walk (PlaceLaws.antt): the end of a loop and the choices that are passed over each lead on. Those are of a left
+-- choice that does not fit, or pair two old choices, whose outcome met no event; a rule that is not walked is marked for no nonterminal, or
+-- has only old choices. Assumes nothing.
+use mathlib.Core.Path.{_≡_, refl, sym, _∙_}
 use mathlib.Core.Bool.{Bool, true, false, false≢true}
 use mathlib.Core.List.{List}
 use mathlib.Core.Logic.{_⊎_, inl, inr, ⊎-elim}
@@ -12,177 +11,147 @@ use lib.Dec.{ltb}
 use lib.ListN.{length}
 use borrow.Author.Tests.{ltb-true, ltb-false}
 use Rattle.words.specs.Reader.{Outcome}
-use Rattle.hedge.specs.Schema.{RulesBelow, EndsBelow}
-use Rattle.hedge.specs.Operations.{unit}
-use Rattle.template.specs.Grammar.{Gives}
-use Rattle.trees.specs.Trees.{Useful}
-use Rattle.useful.specs.Marks.{Ruled, MarksAll}
-use Rattle.pairs.specs.Slots.{rowAt, leftSlot, rightSlot, Choice, choices, newFrom}
-use Rattle.walk.specs.Shares.{Sharing}
-use Rattle.walk.specs.Walks.{ResultOver, Tidy, Ready, Noted, Walked}
-use Rattle.pairs.specs.Turns.{slotFits, leftsOf, leftFrom, rightFrom}
-use Rattle.pairs.specs.declared.Notes.{Notes}
+use Rattle.pieces.specs.declared.Piece.{Piece}
+use Rattle.pieces.specs.Pieces.{pieces}
+use Rattle.pairs.specs.Books.{bookOf}
+use Rattle.pairs.specs.Slots.{leftSlot, rightSlot, choices, newFrom}
+use Rattle.pairs.specs.Turns.{slotFits, leftFrom, rightFrom}
+use Rattle.shares.proofs.ShareLaws.{marks-some, below-next}
+use Rattle.walk.specs.News.{news, renews}
+use Rattle.walk.specs.Walks.{RoundBegins, Noted, Walked}
+use Rattle.walk.specs.declared.Round.{Round}
 use Rattle.walk.specs.declared.Walk.the-variants.{Went}
-use Rattle.walk.proofs.ShareLaws.{marks-some}
-use Rattle.walk.proofs.SlotLaws.{choice-fits, choice-same, none-old}
+use Rattle.walk.proofs.ValidLaws.{or-false-left, or-false-right}
+use Rattle.walk.proofs.SlotLaws.{fits-later, none-old}
+use Rattle.walk.proofs.NewsLaws.{unrenewed-old}
 use Rattle.walk.proofs.PairingLaws.{Pairing, pairing-marked, result-pairing, pairing-result, pairing-old}
-use Rattle.walk.proofs.ProgressLaws.{below-next, no-notes, settled-noted, Sofar, sofar-start, sofar-seen}
+use Rattle.walk.proofs.ProgressLaws.{tallyBook, eventless-noted}
+use Rattle.walk.proofs.PlaceLaws.{LentParts, RuleParts, walkedAt, AtRule, Before, Place, place, Going, same, onward}
 
--- (i′, j′, k′) comes before (i, j, k)
-abbrev pub Before : ℕ → ℕ → ℕ → ℕ → ℕ → ℕ → Type 0
-Before i j k i′ j′ k′ = (i′ < i) ⊎ ((i′ ≡ i) × ((j′ < j) ⊎ ((j′ ≡ j) × (k′ < k))))
+module _ {lore rules t₀ : List ℕ} {round : Round} {fresh : ℕ} {p : Place} (going : Going lore rules round fresh t₀ p) where
+  abbrev Met : ℕ → ℕ → ℕ → ℕ → Outcome Piece → Type 0
+  Met a b c x o = Pairing lore rules (bookOf t₀ (round .rows)) a b c x o
 
-module _ (states : ℕ) (rules schema endings : List ℕ) where
-  -- the pairings before (i, j, k)
-  abbrev pub Visited : List ℕ → ℕ → ℕ → ℕ → ℕ → ℕ → Outcome ℕ → Type 0
-  Visited t n i j k x o = (i′ j′ k′ : ℕ) × Before i j k i′ j′ k′ × Pairing states rules schema endings t n i′ j′ k′ x o
+  abbrev NotedHere : ℕ → Outcome Piece → Type 0
+  NotedHere x o = Noted lore rules (p .found .notes) (tallyBook (p .table) (p .found)) x o
 
-  -- the walk from the table t₀ of n rows stands at (i, j, k), with these rows and notes
-  pub record Going (t₀ : List ℕ) (prev n : ℕ) (first : Bool) (i j k : ℕ) (t : List ℕ) (m : ℕ) (notes : Notes) : Type 0 where
-    pub tidy : Tidy states rules schema endings t₀ n
-    pub ready : Ready states rules schema endings t₀ prev n first
-    pub sofar : Sofar states rules schema endings (ResultOver states rules schema endings t₀ n) (Visited t₀ n i j k) t₀ n t m notes
-
-  module _ (t₀ : List ℕ) (prev n : ℕ) (first : Bool) where
-    pub going-start : Tidy states rules schema endings t₀ n → Ready states rules schema endings t₀ prev n first
-        → Going t₀ prev n first 0 0 0 t₀ n no-notes
-    going-start tidy ready =
-        record {
-          tidy = tidy;
-          ready = ready;
-          sofar = sofar-start states rules schema endings (ResultOver states rules schema endings t₀ n) (Visited t₀ n 0 0 0) t₀ n tidy none;
-        }
+  module _ {shares : List ℕ} (lent : LentParts lore rules shares) where
+    -- a pairing of two old choices met no event
+    old-noted : (a b c x : ℕ) (o : Outcome Piece) → Met a b c x o → b < newFrom (leftSlot rules a) (round .prev) (round .first)
+        → c < newFrom (rightSlot rules a) (round .prev) (round .first) → NotedHere x o
+    old-noted a b c x o m l l′ = by (round .first) refl
       where
-        none : (x : ℕ) (o : Outcome ℕ) → Visited t₀ n 0 0 0 x o → ⊥
-        none x o (i, j, k, inl l, p) = omega arith
-        none x o (i, j, k, inr (e, inl l), p) = omega arith
-        none x o (i, j, k, inr (e, inr (f, l)), p) = omega arith
+        begins : RoundBegins lore rules t₀ round
+        begins = going .begun .begins
 
-    module _ (i j k : ℕ) (t : List ℕ) (m : ℕ) (notes : Notes) (going : Going t₀ prev n first i j k t m notes) where
-      pub same : (k : ℕ) → k < n → rowAt t k ≡ rowAt t₀ k
-      same = going .sofar .grown .same-rows
+        by : (first : Bool) → round .first ≡ first → NotedHere x o
+        by true q =
+            absurd (none-old (round .prev) (round .rows) (leftSlot rules a) b (begins .older) (begins .nothing-yet q) (rw q at l))
+        by false q =
+            eventless-noted lore rules (p .found .notes) (bookOf t₀ (round .rows)) (tallyBook (p .table) (p .found)) x o
+            (going .sofar .grown .more) (same going)
+            (begins .settled q x o
+            (pairing-result (lent .is-lore) (bookOf t₀ (round .prev))
+            (λ d h. going .begun .proper .proper d (omega (arith, begins .older))) (pairing-old round m l l′)))
 
-      -- further on, if what is passed over is noted
-      pub onward : (i′ j′ k′ : ℕ)
-          → ((a b c x : ℕ) (o : Outcome ℕ) → Before i′ j′ k′ a b c → Pairing states rules schema endings t₀ n a b c x o
-          → Before i j k a b c ⊎ Noted states rules schema endings notes t m x o) → Going t₀ prev n first i′ j′ k′ t m notes
-      onward i′ j′ k′ f =
-          record {
-            tidy = going .tidy;
-            ready = going .ready;
-            sofar = sofar-seen states rules schema endings (ResultOver states rules schema endings t₀ n) (Visited t₀ n i j k)
-                (Visited t₀ n i′ j′ k′) t₀ n t m notes (going .sofar)
-                (λ x o (a, b, c, l, p).
-                ⊎-elim (λ h. going .sofar .seen x o (a, b, c, h, p)) (λ w. w) (f a b c x o l p));
-          }
+    -- after the last rule
+    pub walk-end : length rules / 4 ≤ p .i → Walked lore rules (bookOf t₀ (round .rows)) (Went (p .found)) (p .table)
+    walk-end h = (
+      going .sofar .grown,
+      going .sofar .happened,
+      λ x o r.
+          let (a, b, c, m) =
+          result-pairing (lent .is-lore) (bookOf t₀ (round .rows)) (going .begun .proper .proper) (lent .in-range) (lent .all-shares) x o r in
+          let l : a < p .i = omega (arith, m .is-rule) in
+          going .sofar .seen x o (a, b, c, inl l, m),
+    )
 
+    -- ---- at a rule
+
+    module _ {parts : RuleParts} (rule : AtRule rules round fresh (p .i) parts) where
       -- after the last right choice
-      pub right-end : (rights : ℕ) → rights ≡ choices (rightSlot rules i) n → rights ≤ k → Going t₀ prev n first i (j + 1) 0 t m notes
-      right-end rights e h = onward i (j + 1) 0 (λ a b c x o l p. inl (at a b c x o p l))
+      pub right-end : parts .rights ≤ p .k → Going lore rules round fresh t₀ (place (p .i) (p .j + 1) 0 (p .table) (p .found))
+      right-end h = onward going (p .i) (p .j + 1) 0 (λ a b c x o m l. inl (at a b c x o m l))
         where
-          at : (a b c x : ℕ) (o : Outcome ℕ) → Pairing states rules schema endings t₀ n a b c x o → Before i (j + 1) 0 a b c
-              → Before i j k a b c
-          at a b c x o p (inl l) = inl l
-          at a b c x o p (inr (q, inl l)) =
-              let g : c < choices (rightSlot rules i) n = rw q at (p .is-right) in
-              inr (q, ⊎-elim (λ l. inl l) (λ d. inr (d, omega arith)) (below-next b j l))
-          at a b c x o p (inr (q, inr (d, l))) = absurd (omega arith)
+          all : parts .rights ≡ choices (rightSlot rules (p .i)) (round .rows)
+          all = rw (← (rule .right-is)) (rule .rights-is)
 
-      -- after the last left choice; there is none where no nonterminal is marked for the rule
-      pub left-end : (useful lefts marks : ℕ) → MarksAll useful (Useful (Gives rules)) → Ruled rules → Sharing rules useful i marks
-          → lefts ≡ leftsOf (ltb 0 marks) (choices (leftSlot rules i) n) → lefts ≤ j → k ≡ 0
-          → Going t₀ prev n first (i + 1) 0 0 t m notes
-      left-end useful lefts marks are-useful ruled sharing e h z = onward (i + 1) 0 0 (λ a b c x o l p. inl (at a b c x o p l))
-        where
-          at : (a b c y : ℕ) (o : Outcome ℕ) → Pairing states rules schema endings t₀ n a b c y o → Before (i + 1) 0 0 a b c
-              → Before i j k a b c
-          at a b c y o p (inl l) =
-              ⊎-elim (λ g. inl g)
-              (λ q.
-              let marked = pairing-marked states rules schema endings t₀ n i b c y o useful marks are-useful ruled sharing (rw q at p) in
-              let all : lefts ≡ choices (leftSlot rules i) n = rw (marks-some marks y (marked .1) (marked .0)) at e in
-              let g : b < choices (leftSlot rules i) n = rw q at (p .is-left) in
-              inr (q, inl (omega arith)))
-              (below-next a i l)
-          at a b c y o p (inr (q, inl l)) = absurd (omega arith)
-          at a b c y o p (inr (q, inr (d, l))) = absurd (omega arith)
+          at : (a b c x : ℕ) (o : Outcome Piece) → Met a b c x o → Before (p .i) (p .j + 1) 0 a b c → Before (p .i) (p .j) (p .k) a b c
+          at a b c x o m (inl l) = inl l
+          at a b c x o m (inr (q, inl l)) =
+              let g : c < choices (rightSlot rules (p .i)) (round .rows) = rw q at (m .is-right) in
+              inr (q, ⊎-elim (λ l. inl l) (λ d. inr (d, omega (arith, all, g))) (below-next b (p .j) l))
+          at a b c x o m (inr (q, inr (d, l))) = absurd (omega arith)
 
-      -- a pairing of two old choices is settled
-      old-noted : (few : states ≤ 8) → RulesBelow states schema → EndsBelow states endings → (a b c x : ℕ) (o : Outcome ℕ)
-          → Pairing states rules schema endings t₀ n a b c x o → b < newFrom (leftSlot rules a) prev first
-          → c < newFrom (rightSlot rules a) prev first → Noted states rules schema endings notes t m x o
-      old-noted few rules-below ends-below a b c x o p l l′ = by first refl
+      -- after the last left choice; there is none where the rule is not walked, and then its pairings are old
+      pub left-end : parts .lefts ≤ p .j → p .k ≡ 0 → Going lore rules round fresh t₀ (place (p .i + 1) 0 0 (p .table) (p .found))
+      left-end h z = onward going (p .i + 1) 0 0 at
         where
-          by : (fresh : Bool) → first ≡ fresh → Noted states rules schema endings notes t m x o
-          by true q =
-              absurd (none-old prev n (leftSlot rules a) b (going .ready .older) (going .ready .nothing-yet q) (rw q at l))
-          by false q =
-              settled-noted states rules schema endings notes t₀ t n m x o (going .sofar .grown .more) same
-              (going .ready .settled q x o
-              (pairing-result states rules schema endings few rules-below ends-below t₀ prev
-              (λ d h. going .tidy .proper d (omega (arith, going .ready .older))) a b c x o
-              (pairing-old states rules schema endings t₀ prev n first a b c x o p l l′)))
+          here : (walked : Bool) → walkedAt round fresh parts ≡ walked → (b c x : ℕ) (o : Outcome Piece) → Met (p .i) b c x o
+              → Before (p .i) (p .j) (p .k) (p .i) b c ⊎ NotedHere x o
+          here true q b c x o m =
+              let all : parts .lefts ≡ choices (leftSlot rules (p .i)) (round .rows) = rw (q, rule .left-is) at (rule .lefts-is) in
+              inl (inr (refl, inl (omega (arith, all, m .is-left))))
+          here false q b c x o m =
+              let marked = pairing-marked (lent .in-range) (rule .sharing) m .1 in
+              let none = rw (marks-some (parts .marks) x marked, going .begun .fresh-is, rule .left-is, rule .right-is) at q in
+              let left = or-false-left (renews (leftSlot rules (p .i)) (news t₀ (round .prev) (round .rows)) (round .first)) _ none in
+              let right = or-false-right (renews (leftSlot rules (p .i)) (news t₀ (round .prev) (round .rows)) (round .first)) _ none in
+              inr (old-noted (p .i) b c x o m
+              (unrenewed-old t₀ (pieces lore .unit) (round .prev) (round .rows) (round .first) (leftSlot rules (p .i)) b (m .form) (m .last) left
+              (m .left))
+              (unrenewed-old t₀ (pieces lore .unit) (round .prev) (round .rows) (round .first) (rightSlot rules (p .i)) c (m .form′) (m .last′)
+              right (m .right)))
+
+          at : (a b c x : ℕ) (o : Outcome Piece) → Met a b c x o → Before (p .i + 1) 0 0 a b c
+              → Before (p .i) (p .j) (p .k) a b c ⊎ NotedHere x o
+          at a b c x o m (inl l) =
+              ⊎-elim (λ g. inl (inl g)) (λ q. rw q (here (walkedAt round fresh parts) refl b c x o (rw q at m))) (below-next a (p .i) l)
+          at a b c x o m (inr (q, inl l)) = absurd (omega arith)
+          at a b c x o m (inr (q, inr (d, l))) = absurd (omega arith)
 
       -- the first left choice of a rule: where no right choice is new, those before it make old pairings
-      pub left-start : (j′ newLeft newRight rights : ℕ) → j ≡ 0 → k ≡ 0 → newLeft ≡ newFrom (leftSlot rules i) prev first
-          → newRight ≡ newFrom (rightSlot rules i) prev first → rights ≡ choices (rightSlot rules i) n
-          → j′ ≡ leftFrom (ltb newRight rights) newLeft → (few : states ≤ 8) → RulesBelow states schema → EndsBelow states endings
-          → Going t₀ prev n first i j′ 0 t m notes
-      left-start j′ newLeft newRight rights y z e f g d few rules-below ends-below =
-          onward i j′ 0 (λ a b c x o l p. at a b c x o p l)
+      pub left-start : p .j ≡ 0 → p .k ≡ 0 → (j : ℕ) → j ≡ leftFrom (ltb (parts .newRight) (parts .rights)) (parts .newLeft)
+          → Going lore rules round fresh t₀ (place (p .i) j 0 (p .table) (p .found))
+      left-start y z j d = onward going (p .i) j 0 at
         where
-          passed : (some : Bool) → ltb newRight rights ≡ some → (a b c x : ℕ) (o : Outcome ℕ)
-              → Pairing states rules schema endings t₀ n a b c x o → a ≡ i → b < leftFrom some newLeft
-              → Noted states rules schema endings notes t m x o
-          passed true q a b c x o p h l = absurd (omega arith)
-          passed false q a b c x o p h l =
-              let w : c < choices (rightSlot rules i) n = rw h at (p .is-right) in
-              let v : rights ≤ newRight = ltb-false newRight rights q in
-              let u : c < newRight = omega (arith, w, v, g) in
-              old-noted few rules-below ends-below a b c x o p (rw (h, ← e) l) (rw (h, ← f) u)
+          passed : (some : Bool) → ltb (parts .newRight) (parts .rights) ≡ some → (b c x : ℕ) (o : Outcome Piece) → Met (p .i) b c x o
+              → b < leftFrom some (parts .newLeft) → NotedHere x o
+          passed true q b c x o m l = absurd (omega arith)
+          passed false q b c x o m l =
+              let v : parts .rights ≤ parts .newRight = ltb-false (parts .newRight) (parts .rights) q in
+              let w : c < choices (parts .right) (round .rows) = rw (rule .right-is) (m .is-right) in
+              let u : c < parts .newRight = omega (arith, w, v, rule .rights-is) in
+              old-noted (p .i) b c x o m (rw (← (rule .left-is), ← (rule .new-left)) l) (rw (← (rule .right-is), ← (rule .new-right)) u)
 
-          at : (a b c x : ℕ) (o : Outcome ℕ) → Pairing states rules schema endings t₀ n a b c x o → Before i j′ 0 a b c
-              → Before i j k a b c ⊎ Noted states rules schema endings notes t m x o
-          at a b c x o p (inl l) = inl (inl l)
-          at a b c x o p (inr (h, inl l)) = inr (passed (ltb newRight rights) refl a b c x o p h (rw (← d) l))
-          at a b c x o p (inr (h, inr (v, l))) = absurd (omega arith)
+          at : (a b c x : ℕ) (o : Outcome Piece) → Met a b c x o → Before (p .i) j 0 a b c
+              → Before (p .i) (p .j) (p .k) a b c ⊎ NotedHere x o
+          at a b c x o m (inl l) = inl (inl l)
+          at a b c x o m (inr (h, inl l)) =
+              inr (passed (ltb (parts .newRight) (parts .rights)) refl b c x o (rw h at m) (rw (← d) l))
+          at a b c x o m (inr (h, inr (v, l))) = absurd (omega arith)
 
       -- the first right choice of a left choice: those before it make no pairing, or an old one
-      pub right-start : (k′ newLeft newRight rights : ℕ) → k ≡ 0 → newLeft ≡ newFrom (leftSlot rules i) prev first
-          → newRight ≡ newFrom (rightSlot rules i) prev first
-          → k′ ≡ rightFrom (slotFits (leftSlot rules i) j t) (ltb j newLeft) newRight rights
-          → (few : states ≤ 8) → RulesBelow states schema → EndsBelow states endings
-          → Going t₀ prev n first i j k′ t m notes
-      right-start k′ newLeft newRight rights z e f g few rules-below ends-below =
-          onward i j k′ (λ a b c x o l p. at a b c x o p l)
+      pub right-start : p .k ≡ 0 → (k : ℕ)
+          → k ≡ rightFrom (slotFits (parts .left) (p .j) (p .table)) (ltb (p .j) (parts .newLeft)) (parts .newRight) (parts .rights)
+          → Going lore rules round fresh t₀ (place (p .i) (p .j) k (p .table) (p .found))
+      right-start z k d = onward going (p .i) (p .j) k at
         where
-          passed : (fits before : Bool) → slotFits (leftSlot rules i) j t ≡ fits → ltb j newLeft ≡ before
-              → (a b c x : ℕ) (o : Outcome ℕ) → Pairing states rules schema endings t₀ n a b c x o → a ≡ i → b ≡ j
-              → c < rightFrom fits before newRight rights → Noted states rules schema endings notes t m x o
-          passed false before q u a b c x o p d h l =
-              let w : Choice (unit 8 states) t₀ n (leftSlot rules i) j (p .form) (p .last) = rw (d, h) at (p .left) in
-              absurd (false≢true (sym q ∙ choice-fits (unit 8 states) t n (leftSlot rules i) j (p .form) (p .last)
-              (choice-same (unit 8 states) t₀ t n same (leftSlot rules i) j (p .form) (p .last) .0 w)))
-          passed true true q u a b c x o p d h l =
-              old-noted few rules-below ends-below a b c x o p (rw (d, h, ← e) (ltb-true j newLeft u)) (rw (d, ← f) l)
-          passed true false q u a b c x o p d h l = absurd (omega arith)
+          passed : (fits before : Bool) → slotFits (leftSlot rules (p .i)) (p .j) (p .table) ≡ fits → ltb (p .j) (parts .newLeft) ≡ before
+              → (c x : ℕ) (o : Outcome Piece) → Met (p .i) (p .j) c x o → c < rightFrom fits before (parts .newRight) (parts .rights)
+              → NotedHere x o
+          passed false before q u c x o m l =
+              absurd (false≢true (sym q ∙ fits-later (pieces lore .unit) t₀ (p .table) (round .rows) (same going) (leftSlot rules (p .i)) (p .j)
+              (m .form) (m .last) (m .left)))
+          passed true true q u c x o m l =
+              old-noted (p .i) (p .j) c x o m (rw (← (rule .left-is), ← (rule .new-left)) (ltb-true (p .j) (parts .newLeft) u))
+              (rw (← (rule .right-is), ← (rule .new-right)) l)
+          passed true false q u c x o m l = absurd (omega arith)
 
-          at : (a b c x : ℕ) (o : Outcome ℕ) → Pairing states rules schema endings t₀ n a b c x o → Before i j k′ a b c
-              → Before i j k a b c ⊎ Noted states rules schema endings notes t m x o
-          at a b c x o p (inl l) = inl (inl l)
-          at a b c x o p (inr (d, inl l)) = inl (inr (d, inl l))
-          at a b c x o p (inr (d, inr (h, l))) =
-              inr (passed (slotFits (leftSlot rules i) j t) (ltb j newLeft) refl refl a b c x o p d h (rw (← g) l))
-
-      -- after the last rule
-      pub walk-end : (few : states ≤ 8) → RulesBelow states schema → EndsBelow states endings → length rules / 4 ≤ i
-          → Walked states rules schema endings t₀ n (Went m notes) t
-      walk-end few rules-below ends-below h = (
-        going .sofar .grown,
-        going .sofar .happened,
-        λ x o r.
-            let (a, b, c, p) =
-            result-pairing states rules schema endings few rules-below ends-below t₀ n (going .tidy .proper) x o r in
-            let l : a < i = omega (arith, p .is-rule) in
-            going .sofar .seen x o (a, b, c, inl l, p),
-      )
+          at : (a b c x : ℕ) (o : Outcome Piece) → Met a b c x o → Before (p .i) (p .j) k a b c
+              → Before (p .i) (p .j) (p .k) a b c ⊎ NotedHere x o
+          at a b c x o m (inl l) = inl (inl l)
+          at a b c x o m (inr (e, inl l)) = inl (inr (e, inl l))
+          at a b c x o m (inr (e, inr (h, l))) =
+              inr (passed (slotFits (leftSlot rules (p .i)) (p .j) (p .table)) (ltb (p .j) (parts .newLeft)) refl refl c x o (rw (e, h) at m)
+              (rw (← (rule .left-is), ← d) l))

@@ -1,2 +1,2 @@
-pub mod Shares
+pub mod News
 pub mod Walks

@@ -1,38 +1,37 @@
-// One round's walk over rules and pairs of images. The images before the round are the rows below n of the lent table, those below prev
-// were there two rounds ago; what the walk finds goes behind the n rows, so that no image of the same round is used. A pair of images of
-// which both were there two rounds ago was joined then, and is passed over; rules with the same right side are walked once, under the first.
+// One round's walk over rules and pairs of images. The images before the round are the first rows of the lent table; what the walk finds
+// goes behind them, so that no image of the same round is used. A pair of images of which both were there two rounds ago was joined then,
+// and is passed over; rules with the same right side are walked once, under the first with a useful left side. Which rules those are is
+// found once a check, and a rule none of whose nonterminals has a new row costs one look a round.
 ghost use mathlib.Core.Path.{_≡_};
-ghost use mathlib.Core.Bool.{true, cond};
-ghost use mathlib.Core.Logic.{_↔_};
-ghost use Prim.Native.Nat.{_+_, _*_, _/_, _<_};
+ghost use Prim.Native.Nat.{_+_, _*_, _/_, _<_, _≤_};
 ghost use lib.Dec.{ltb};
 ghost use lib.ListN.{length};
-ghost use Rattle.numbers.specs.Fields.{field};
-ghost use Rattle.hedge.specs.Schema.{RulesBelow, EndsBelow};
-ghost use Rattle.numbers.specs.Bits.{bit};
-ghost use Rattle.template.specs.Grammar.{Gives};
-ghost use Rattle.trees.specs.Trees.{Useful};
-ghost use Rattle.form.specs.Steps.{Schooled};
-ghost use Rattle.useful.specs.Marks.{withMark, Ruled, MarksAll};
+ghost use Rattle.hedge.specs.Schema.{mostStates};
+ghost use Rattle.lore.specs.Lore.{IsLore};
+ghost use Rattle.template.specs.Layout.{mostRules};
+ghost use Rattle.useful.specs.Marks.{RulesInRange};
+ghost use Rattle.worktable.specs.Packed.{rowWidth, mostImages};
+ghost use Rattle.pairs.specs.Books.{bookOf};
 ghost use Rattle.pairs.specs.Slots.{leftSlot, rightSlot, choices, newFrom};
 ghost use Rattle.pairs.specs.Turns.{slotFits, leftsOf, leftFrom, rightFrom, Choosable};
-ghost use Rattle.walk.specs.Shares.{SameRight, Sharing};
-ghost use Rattle.walk.specs.Walks.{Tidy, Ready, Walked};
+ghost use Rattle.shares.specs.Shares.{Shares};
+ghost use Rattle.walk.specs.News.{news, renews};
+ghost use Rattle.walk.specs.Walks.{ProperRows, RoundBegins, Walked};
 
-// Stopped at the first mismatch, or went through, with so many rows and these notes.
+// Where a round begins: so many rows were there two rounds ago, so many are there now, and whether it is the first round.
+pub struct Round {
+    pub prev: usize,
+    pub rows: usize,
+    pub first: bool,
+}
+
+// Stopped at the first mismatch, or went through, with this tally.
 pub enum Walk {
     Stopped,
-    Went(usize, pairs::Notes),
+    Went(pairs::Tally),
 }
 
-// The left side of rule i, and the slots of its right side.
-fn left_side(rules: &[u8], i: usize) -> u8
-    requires { ⌜ i < length (now rules) / 4 ⌝ }
-    ensures { λ r. ⌜ r ≡ field (now (rules .entry)) i 0 ⌝ }
-{
-    rules[i * 4]
-}
-
+// The slots of the right side of rule i.
 fn left_slot(rules: &[u8], i: usize) -> pairs::Slot
     requires { ⌜ i < length (now rules) / 4 ⌝ }
     ensures { λ r. ⌜ r ≡ leftSlot (now (rules .entry)) i ⌝ }
@@ -113,58 +112,41 @@ fn right_from(
     rights
 }
 
-// Have rules h and i the same right side?
-fn same_right(rules: &[u8], h: usize, i: usize) -> bool
-    requires { ⌜ (h < length (now rules) / 4) × (i < length (now rules) / 4) ⌝ }
-    ensures { λ r. ⌜ (r ≡ true) ↔ SameRight (now (rules .entry)) h i ⌝ }
-{
-    let a = h * 4;
-    let b = i * 4;
-    if rules[a + 2] != rules[b + 2] {
-        return false;
-    }
-    if rules[a + 3] != rules[b + 3] {
-        return false;
-    }
-    rules[a + 1] == rules[b + 1]
-}
-
-// The marks with x, where it is useful.
-fn with_useful(marks: u64, useful: u64, x: u8) -> u64
-    requires { ⌜ x < 64 ⌝ }
-    ensures { λ r. ⌜ r ≡ cond (bit useful x) (withMark marks x) marks ⌝ }
-{
-    if useful::marked(useful, numbers::wide(x)) {
-        return useful::mark(marks, numbers::wide(x));
-    }
-    marks
-}
-
-// The useful nonterminals for which rule i is walked: the left sides of all rules with its right side, where it is the first of them.
-fn sharers(rules: &[u8], useful: u64, i: usize) -> u64
-    requires { ⌜ Ruled (now rules) ⌝ }
-    requires { ⌜ i < length (now rules) / 4 ⌝ }
-    ensures { λ r. ⌜ Sharing (now (rules .entry)) useful i r ⌝ }
+// The nonterminals that have a row from the a-th up to the e-th.
+fn news(table: &[u64], a: usize, e: usize) -> u64
+    requires { ⌜ e * rowWidth ≤ length (now table) ⌝ }
+    ensures { λ r. ⌜ r ≡ news (now (table .entry)) a e ⌝ }
 {
     let mut marks = 0u64;
-    let mut h = 0;
-    while h < rules.len() / 4 {
-        if same_right(rules, h, i) {
-            if h < i {
-                return 0;
-            }
-            marks = with_useful(marks, useful, left_side(rules, h));
-        }
-        h += 1;
+    let mut k = a;
+    while k < e {
+        let at = k * worktable::ROW;
+        let to = at + worktable::ROW;
+        marks = useful::mark(
+            marks,
+            numbers::wide(worktable::nonterminal(&table[at..to])) % 64,
+        );
+        k += 1;
     }
     marks
 }
 
-// How many left choices a rule has in the walk: none where it is walked for no nonterminal.
-fn lefts_of(marks: u64, left: pairs::Slot, n: usize) -> usize
-    ensures { λ r. ⌜ r ≡ leftsOf (ltb 0 marks) (choices left n) ⌝ }
+// Has the slot a new choice: is it the first round, or has its nonterminal a new row?
+fn renews(s: pairs::Slot, fresh: u64, first: bool) -> bool
+    ensures { λ r. ⌜ r ≡ renews s fresh first ⌝ }
 {
-    if 0 < marks {
+    match s {
+        pairs::Slot::Absent => first,
+        pairs::Slot::Single(_, _) => first,
+        pairs::Slot::Rows(x) => first | useful::marked(fresh, numbers::wide(x) % 64),
+    }
+}
+
+// How many left choices a rule has in the walk: none where it is walked for no nonterminal, or neither slot has a new choice.
+fn lefts_of(walked: bool, left: pairs::Slot, n: usize) -> usize
+    ensures { λ r. ⌜ r ≡ leftsOf walked (choices left n) ⌝ }
+{
+    if walked {
         return choices(left, n);
     }
     0
@@ -173,39 +155,39 @@ fn lefts_of(marks: u64, left: pairs::Slot, n: usize) -> usize
 // The walk of one round.
 pub fn walk_round(
     rules: &[u8],
-    schema: &[u8],
-    endings: &[u8],
-    states: usize,
-    empty: u64,
-    useful: u64,
+    lore: &[u64; lore::LORE],
+    shares: &[u64; template::RULES],
     table: &mut [u64],
-    prev: usize,
-    n: usize,
-    first: bool,
+    round: Round,
 ) -> Walk
-    requires { ⌜ Schooled states (now schema) (now endings) empty ⌝ }
-    requires { ⌜ RulesBelow states (now schema) ⌝ }
-    requires { ⌜ EndsBelow states (now endings) ⌝ }
-    requires { ⌜ Ruled (now rules) ⌝ }
-    requires { ⌜ MarksAll useful (Useful (Gives (now rules))) ⌝ }
-    requires { ⌜ Tidy states (now rules) (now schema) (now endings) (now table) n ⌝ }
-    requires { ⌜ Ready states (now rules) (now schema) (now endings) (now table) prev n first ⌝ }
-    ensures { λ r. ⌜ Walked states (now (rules .entry)) (now (schema .entry)) (now (endings .entry)) (now (table .entry)) n r
-        (now (table .exit)) ⌝ }
+    requires { ⌜ IsLore mostStates (now lore) ⌝ }
+    requires { ⌜ RulesInRange (now rules) ⌝ }
+    requires { ⌜ Shares (now rules) (now shares) ⌝ }
+    requires { ⌜ length (now rules) / 4 ≤ mostRules ⌝ }
+    requires { ⌜ ProperRows (now lore) (now rules) (bookOf (now table) (round .rows)) ⌝ }
+    requires { ⌜ RoundBegins (now lore) (now rules) (now table) round ⌝ }
+    ensures { λ r. ⌜ Walked (now (lore .entry)) (now (rules .entry)) (bookOf (now (table .entry)) (round .rows)) r (now (table .exit)) ⌝ }
 {
-    let mut m = n;
-    let mut notes = pairs::Notes {
-        invalid: false,
-        deep: false,
-        crowded: false,
+    let prev = round.prev;
+    let n = round.rows;
+    let first = round.first;
+    let fresh = news(table, prev, n);
+    let mut found = pairs::Tally {
+        rows: n,
+        notes: pairs::Notes {
+            invalid: false,
+            deep: false,
+            crowded: false,
+        },
     };
     let mut i = 0;
     let event = 'walk: loop {
         while i < rules.len() / 4 {
-            let marks = sharers(rules, useful, i);
+            let marks = shares[i];
             let left = left_slot(rules, i);
             let right = right_slot(rules, i);
-            let lefts = lefts_of(marks, left, n);
+            let walked = (0 < marks) & (renews(left, fresh, first) | renews(right, fresh, first));
+            let lefts = lefts_of(walked, left, n);
             let rights = choices(right, n);
             let new_left = new_from(left, prev, first);
             let new_right = new_from(right, prev, first);
@@ -213,36 +195,24 @@ pub fn walk_round(
             while j < lefts {
                 let mut k = right_from(left, j, table, new_left, new_right, rights);
                 while k < rights {
-                    let t = pairs::one_turn(
-                        schema,
-                        endings,
-                        states,
-                        empty,
-                        left,
-                        j,
-                        right,
-                        k,
-                        marks,
-                        table,
-                        m,
-                        notes,
-                    );
-                    match t {
-                        pairs::Turn::Kept(a, b) => {
-                            m = a;
-                            notes = b;
-                        }
-                        pairs::Turn::Mismatch => {
-                            break 'walk Walk::Stopped;
-                        }
-                    }
+                    let pair = pairs::Selection {
+                        left: left,
+                        j: j,
+                        right: right,
+                        k: k,
+                    };
+                    let t = pairs::one_turn(lore, pair, marks, table, found);
+                    let pairs::Turn::Kept(tally) = t else {
+                        break 'walk Walk::Stopped;
+                    };
+                    found = tally;
                     k += 1;
                 }
                 j += 1;
             }
             i += 1;
         }
-        break 'walk Walk::Went(m, notes);
+        break 'walk Walk::Went(found);
     };
     event
 }

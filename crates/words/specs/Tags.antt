@@ -7,11 +7,15 @@ pub data Tag : Type 0 where
   start : ℕ → Tag
   end : ℕ → Tag
 
--- a is one of the A element names; there are never more than 32
+-- the most element names
+abbrev pub mostNames : ℕ
+mostNames = 32
+
+-- a is one of the A element names
 abbrev pub Name : ℕ → ℕ → Type 0
-Name A a = (a < A) × (a < 32)
+Name A a = (a < A) × (a < mostNames)
 
 -- the byte is the tag's, where there are A names
 pub data Spells (A : ℕ) : ℕ → Tag → Type 0 where
   start-byte : {a : ℕ} → Name A a → Spells A a (start a)
-  end-byte : {a : ℕ} → Name A a → Spells A (32 + a) (end a)
+  end-byte : {a : ℕ} → Name A a → Spells A (mostNames + a) (end a)

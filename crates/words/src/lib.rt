@@ -2,6 +2,9 @@
 // proofs/.
 ghost use Rattle.words.specs.Classes.{Classed};
 
+// The most element names.
+pub const NAMES: usize = 32;
+
 // The start tag of a name, the end tag of a name, or no tag.
 pub enum Class {
     Start(u8),

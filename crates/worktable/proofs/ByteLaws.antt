@@ -11,8 +11,9 @@ use lib.Seq.{set-at, take-nil}
 use mir.Syntax.{w64}
 use mir.Val.{Fits}
 use borrow.Author.Needs.{needs}
+use Rattle.pieces.specs.Pieces.{mostTags}
 use Rattle.worktable.specs.Packed.{bytesIn, nameIn, namesIn}
-use Rattle.worktable.proofs.MoveLaws.{zeroEntries}
+use Rattle.rows.proofs.MoveLaws.{zeroEntries}
 
 -- ---- names in a number
 
@@ -72,23 +73,23 @@ unfolding namesIn
 names-length row k zero = refl
 names-length row k (suc n) = ap suc (names-length row (suc k) n)
 
-pub named-none : (row : List ℕ) → zeroEntries 16 ≡ namesIn row 0 0 ++ zeroEntries (16 - 0)
+pub named-none : (row : List ℕ) → zeroEntries mostTags ≡ namesIn row 0 0 ++ zeroEntries (mostTags - 0)
 unfolding namesIn
 named-none row = refl
 
-module _ (row names : List ℕ) (k : ℕ) (so-far : names ≡ namesIn row 0 k ++ zeroEntries (16 - k)) where
-  pub named-next : k < 16
-      → set names k (getD row (1 + k / 8) 0 / 2 ^ (k % 8 * 8) % 256) ≡ namesIn row 0 (k + 1) ++ zeroEntries (16 - (k + 1))
+module _ (row names : List ℕ) (k : ℕ) (so-far : names ≡ namesIn row 0 k ++ zeroEntries (mostTags - k)) where
+  pub named-next : k < mostTags
+      → set names k (getD row (1 + k / 8) 0 / 2 ^ (k % 8 * 8) % 256) ≡ namesIn row 0 (k + 1) ++ zeroEntries (mostTags - (k + 1))
   unfolding nameIn
   named-next h =
-      let p : 16 - k ≡ suc (16 - suc k) = omega arith in
+      let p : mostTags - k ≡ suc (mostTags - suc k) = omega arith in
       let z : 0 + k ≡ k = omega arith in
       rw (so-far, p, add-one k, names-more row 0 k, z, append-assoc)
-      (set-at (namesIn row 0 k) 0 (zeroEntries (16 - suc k)) (nameIn row k) k (names-length row 0 k))
+      (set-at (namesIn row 0 k) 0 (zeroEntries (mostTags - suc k)) (nameIn row k) k (names-length row 0 k))
 
-  pub named-end : 16 ≤ k → k ≤ 16 → names ≡ namesIn row 0 16
+  pub named-end : mostTags ≤ k → k ≤ mostTags → names ≡ namesIn row 0 mostTags
   named-end h l =
-      let d : k ≡ 16 = omega arith in
-      so-far ∙ ap (λ (n : ℕ). namesIn row 0 n ++ zeroEntries (16 - n)) d ∙ append-nil (namesIn row 0 16)
+      let d : k ≡ mostTags = omega arith in
+      so-far ∙ ap (λ (n : ℕ). namesIn row 0 n ++ zeroEntries (mostTags - n)) d ∙ append-nil (namesIn row 0 mostTags)
 
 pub ruleset bytes = (bytes-none, bytes-small, bytes-fit, bytes-fit-more, bytes-next, bytes-end, named-none, named-next, named-end, needs)

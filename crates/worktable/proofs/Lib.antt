@@ -1,12 +1,4 @@
-pub mod TableLaws
-pub mod OrderLaws
-pub mod PutLaws
-pub mod SortLaws
 pub mod ByteLaws
 pub mod PackedLaws
 pub mod RowLaws
-pub mod CompareLaws
-pub mod LookLaws
-pub mod MoveLaws
 pub mod StoreLaws
-pub mod ClearLaws

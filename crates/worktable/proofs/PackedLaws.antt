@@ -1,5 +1,5 @@
 -- Packing and unpacking (specs/Packed.antt). What was packed is read back: the first entry by its digits to the base 256, a name as a byte
--- of its entry, the relations as they stand. Assumes nothing.
+-- of its entry, the pieces as they stand; together that is the whole summary. Assumes nothing.
 use mathlib.Core.Path.{_≡_, refl, sym, ap, _∙_}
 use mathlib.Core.List.{List}
 use Prim.Native.Nat.{ℕ, zero, suc, _+_, _-_, _*_, _/_, _%_, _^_, _≤_, _<_}
@@ -9,8 +9,10 @@ use native.Mathlib.Omega.{arith}
 use lib.ListN.{length, getD, drop, take}
 use lib.Pow.{pow-add}
 use lib.Seq.{ext-getD}
-use Rattle.form.specs.Held.{stackOf, Holds}
-use Rattle.worktable.specs.Packed.{bytesIn, packed, nonterminalIn, endsIn, startsIn, nameIn, namesIn, RowOf}
+use Rattle.pieces.specs.Pieces.{mostTags, piecesLong}
+use Rattle.form.specs.Held.{formOf, lastOf, Holds}
+use Rattle.form.specs.declared.Summary.{Summary}
+use Rattle.worktable.specs.Packed.{rowWidth, bytesIn, packed, nonterminalIn, endsIn, startsIn, nameIn, namesIn, summaryIn, RowOf}
 use Rattle.worktable.proofs.ByteLaws.{bytes-cons, names-length}
 
 -- ---- names
@@ -38,68 +40,72 @@ names-at row k (suc n) (suc i) h = let z : k + suc i ≡ suc k + i = omega arith
 
 -- ---- a packed row
 
-module _ (x e s : ℕ) (names values : List ℕ) where
-  pub packed-values : drop 3 (packed x e s names values) ≡ values
+module _ (x : ℕ) (s : Summary) where
+  pub packed-values : drop 3 (packed x s) ≡ s .values
   unfolding packed
   packed-values = refl
 
-  pub packed-length : length values ≡ 17 → length (packed x e s names values) ≡ 20
+  pub packed-length : length (s .values) ≡ piecesLong → length (packed x s) ≡ rowWidth
   unfolding packed
   packed-length l = omega (arith, l)
 
-  pub packed-nonterminal : x < 256 → nonterminalIn (packed x e s names values) ≡ x
+  pub packed-nonterminal : x < 256 → nonterminalIn (packed x s) ≡ x
   unfolding packed
   packed-nonterminal h = omega arith
 
-  pub packed-ends : x < 256 → e ≤ 16 → endsIn (packed x e s names values) ≡ e
-  unfolding packed
-  packed-ends h l = omega arith
+  module _ (small : x < 256) (few : s .counts .ends ≤ mostTags) where
+    packed-ends : endsIn (packed x s) ≡ s .counts .ends
+    unfolding packed
+    packed-ends = omega arith
 
-  pub packed-starts : x < 256 → e ≤ 16 → startsIn (packed x e s names values) ≡ s
-  unfolding packed
-  packed-starts h l = omega arith
+    packed-starts : startsIn (packed x s) ≡ s .counts .starts
+    unfolding packed
+    packed-starts = omega arith
 
-  packed-name : ((k : ℕ) → getD names k 0 < 256) → (k : ℕ) → k < 16 → nameIn (packed x e s names values) k ≡ getD names k 0
-  unfolding packed nameIn
-  packed-name small k h = at (decLt k 8)
-    where
-      at : Dec (k < 8) → getD (packed x e s names values) (1 + k / 8) 0 / 2 ^ (k % 8 * 8) % 256 ≡ getD names k 0
-      at (yes l) =
-          let p : 1 + k / 8 ≡ 1 = omega arith in
-          let q : k % 8 ≡ k = omega arith in
-          rw (p, q) (byte-at names small 0 k 8 l ∙ ap (λ (i : ℕ). getD names i 0) (omega arith))
-      at (no l) =
-          let p : 1 + k / 8 ≡ 2 = omega arith in
-          let q : k % 8 ≡ k - 8 = omega arith in
-          rw (p, q) (byte-at names small 8 (k - 8) 8 (omega arith) ∙ ap (λ (i : ℕ). getD names i 0) (omega arith))
+  module _ (bytes : (k : ℕ) → getD (s .names) k 0 < 256) where
+    packed-name : (k : ℕ) → k < mostTags → nameIn (packed x s) k ≡ getD (s .names) k 0
+    unfolding packed nameIn
+    packed-name k h = at (decLt k 8)
+      where
+        at : Dec (k < 8) → getD (packed x s) (1 + k / 8) 0 / 2 ^ (k % 8 * 8) % 256 ≡ getD (s .names) k 0
+        at (yes l) =
+            let p : 1 + k / 8 ≡ 1 = omega arith in
+            let q : k % 8 ≡ k = omega arith in
+            rw (p, q) (byte-at (s .names) bytes 0 k 8 l ∙ ap (λ (i : ℕ). getD (s .names) i 0) (omega arith))
+        at (no l) =
+            let p : 1 + k / 8 ≡ 2 = omega arith in
+            let q : k % 8 ≡ k - 8 = omega arith in
+            rw (p, q) (byte-at (s .names) bytes 8 (k - 8) 8 (omega arith) ∙ ap (λ (i : ℕ). getD (s .names) i 0) (omega arith))
 
-  pub packed-names : length names ≡ 16 → ((k : ℕ) → getD names k 0 < 256) → namesIn (packed x e s names values) 0 16 ≡ names
-  packed-names l small =
-      let row = packed x e s names values in
-      ext-getD 0 (namesIn row 0 16) names (names-length row 0 16 ∙ sym l)
-      (λ i h. at i (omega (arith, names-length row 0 16)))
-    where
-      at : (i : ℕ) → i < 16 → getD (namesIn (packed x e s names values) 0 16) i 0 ≡ getD names i 0
-      at i h =
-          let row = packed x e s names values in
-          let z : 0 + i ≡ i = omega arith in
-          names-at row 0 16 i h ∙ ap (nameIn row) z ∙ packed-name small i h
+    packed-name-at : (i : ℕ) → i < mostTags → getD (namesIn (packed x s) 0 mostTags) i 0 ≡ getD (s .names) i 0
+    packed-name-at i h =
+        let z : 0 + i ≡ i = omega arith in
+        names-at (packed x s) 0 mostTags i h ∙ ap (nameIn (packed x s)) z ∙ packed-name i h
 
-  -- the arrays of a form give its row
-  pub packed-row : x < 256 → ((k : ℕ) → getD names k 0 < 256) → Holds e s names values
-      → RowOf (packed x e s names values) x (stackOf e names values (e + s)) (getD values (e + s) 0)
-  packed-row small bytes holds =
-      record {
-        ends = e;
-        starts = s;
-        names = names;
-        values = values;
-        names-room = holds .names-long;
-        values-room = holds .values-long;
-        bytes = bytes;
-        small = small;
-        holds = holds;
-        row-is = refl;
-        form-is = refl;
-        last-is = refl;
-      }
+    packed-names : length (s .names) ≡ mostTags → namesIn (packed x s) 0 mostTags ≡ s .names
+    packed-names l =
+        ext-getD 0 (namesIn (packed x s) 0 mostTags) (s .names) (names-length (packed x s) 0 mostTags ∙ sym l)
+        (λ i h. packed-name-at i (omega (arith, names-length (packed x s) 0 mostTags)))
+
+    -- the summary is read back, and is what the row packs
+    module _ (small : x < 256) (holds : Holds s) where
+      pub packed-summary : summaryIn (packed x s) ≡ s
+      packed-summary =
+          let few : s .counts .ends ≤ mostTags = omega (arith, holds .room) in
+          λ i. record {
+            counts = record { ends = packed-ends small few i; starts = packed-starts small few i };
+            names = packed-names (holds .names-long) i;
+            values = packed-values i;
+          }
+
+      pub packed-row : RowOf (packed x s) x (formOf s) (lastOf s)
+      packed-row =
+          record {
+            summary = s;
+            bytes = bytes;
+            small = small;
+            holds = holds;
+            row-is = refl;
+            form-is = refl;
+            last-is = refl;
+          }

@@ -1,14 +1,15 @@
 -- The loop ends with its 16 turns; it makes no claim about what is printed. Assumes nothing.
 use Prim.Native.Nat.{_≤_, _-_}
 use borrow.Author.Needs.{needs}
+use Rattle.pieces.specs.Pieces.{mostTags}
 use Rattle.cases.proofs.show_relations.Statement.{statement}
 use Rattle.cases.proofs.show_relations.Tie as tie
 
 abbrev Inv-loop : tie.InvT-loop
-Inv-loop relations k₀ k = k ≤ 16
+Inv-loop relations k₀ k = k ≤ mostTags
 
 abbrev μ-loop : tie.MeasureT-loop
-μ-loop relations k₀ k = 16 - k
+μ-loop relations k₀ k = mostTags - k
 
 loop-holds : tie.Need-loop-holds Inv-loop μ-loop
 loop-holds c = search needs

@@ -3,14 +3,15 @@ use mathlib.Core.Path.{_≡_}
 use Prim.Native.Nat.{_≤_, _-_}
 use lib.ListN.{length}
 use borrow.Author.Needs.{needs}
+use Rattle.pieces.specs.Pieces.{mostTags, piecesLong}
 use Rattle.cases.proofs.summary_at.Statement.{statement}
 use Rattle.cases.proofs.summary_at.Tie as tie
 
 abbrev Inv-loop : tie.InvT-loop
-Inv-loop bytes at names₀ relations₀ k₀ names relations k = (k ≤ 16) × (length names ≡ 16) × (length relations ≡ 17)
+Inv-loop bytes at names₀ relations₀ k₀ names relations k = (k ≤ mostTags) × (length names ≡ mostTags) × (length relations ≡ piecesLong)
 
 abbrev μ-loop : tie.MeasureT-loop
-μ-loop bytes at names₀ relations₀ k₀ names relations k = 16 - k
+μ-loop bytes at names₀ relations₀ k₀ names relations k = mostTags - k
 
 loop-holds : tie.Need-loop-holds Inv-loop μ-loop
 loop-holds c = search needs
@@ -78,6 +79,9 @@ shared-slice-read-wide-2 c = search needs
 wide-requires-2 : tie.Need-wide-requires-2 Inv-loop μ-loop
 wide-requires-2 c κs = search needs
 
+counted-requires : tie.Need-counted-requires Inv-loop μ-loop
+counted-requires c κs = search needs
+
 returns : tie.Need-returns Inv-loop μ-loop
 returns c = search needs
 
@@ -109,4 +113,5 @@ summary-at-spec =
     add-wide
     shared-slice-read-wide-2
     wide-requires-2
+    counted-requires
     returns)

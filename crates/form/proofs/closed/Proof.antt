@@ -1,10 +1,10 @@
--- The element around the inner word comes from hedge's wrap, and hedge's follow puts it behind the word before. Assumes nothing.
+-- The element around the inner word comes from pieces' element, and its follow puts it behind the word before. Assumes nothing.
 use borrow.Author.Needs.{needs}
 use Rattle.form.proofs.closed.Statement.{statement}
 use Rattle.form.proofs.closed.Tie as tie
 
-wrap-requires : tie.Need-wrap-requires
-wrap-requires c κs = search needs
+element-requires : tie.Need-element-requires
+element-requires c κs = search needs
 
 follow-requires : tie.Need-follow-requires
 follow-requires c κs = search needs
@@ -13,4 +13,4 @@ returns : tie.Need-returns
 returns c = cc
 
 pub closed-spec : {M : Type 1} → statement M
-closed-spec = tie.close (tie.spec wrap-requires follow-requires returns)
+closed-spec = tie.close (tie.spec element-requires follow-requires returns)

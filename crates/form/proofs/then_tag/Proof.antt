@@ -17,11 +17,17 @@ returns c = search tag-laws
 returns-2 : tie.Need-returns-2
 returns-2 c = search tag-laws
 
+empty-requires : tie.Need-empty-requires
+empty-requires c κs = search needs
+
 put-tag-requires : tie.Need-put-tag-requires
 put-tag-requires c κs = search needs
 
-add-t19 : tie.Need-add-t19
-add-t19 c = search needs
+add-counted : tie.Need-add-counted
+add-counted c = search needs
+
+counted-requires : tie.Need-counted-requires
+counted-requires c κs = search needs
 
 returns-3 : tie.Need-returns-3
 returns-3 c = search tag-laws
@@ -29,11 +35,17 @@ returns-3 c = search tag-laws
 returns-4 : tie.Need-returns-4
 returns-4 c = search tag-laws
 
+empty-requires-2 : tie.Need-empty-requires-2
+empty-requires-2 c κs = search needs
+
 put-tag-requires-2 : tie.Need-put-tag-requires-2
 put-tag-requires-2 c κs = search needs
 
-add-t23 : tie.Need-add-t23
-add-t23 c = search needs
+add-counted-2 : tie.Need-add-counted-2
+add-counted-2 c = search needs
+
+counted-requires-2 : tie.Need-counted-requires-2
+counted-requires-2 c κs = search needs
 
 returns-5 : tie.Need-returns-5
 returns-5 c = search tag-laws
@@ -41,5 +53,5 @@ returns-5 c = search tag-laws
 pub then-tag-spec : {M : Type 1} → statement M
 then-tag-spec =
     tie.close
-    (tie.spec add-n meet-requires returns returns-2 put-tag-requires add-t19 returns-3 returns-4 put-tag-requires-2 add-t23
-    returns-5)
+    (tie.spec add-n meet-requires returns returns-2 empty-requires put-tag-requires add-counted counted-requires returns-3 returns-4
+    empty-requires-2 put-tag-requires-2 add-counted-2 counted-requires-2 returns-5)

@@ -11,29 +11,19 @@ then-tag-requires c κs = search needs
 enum-known-s : tie.Need-enum-known-s
 enum-known-s c = search needs
 
+returns : tie.Need-returns
+returns c = search turn-laws
+
 add-add-value : tie.Need-add-add-value
 add-add-value c = search turn-laws
 
 add-value-requires : tie.Need-add-value-requires
 add-value-requires c κs = search turn-laws
 
-enum-known-s-2 : tie.Need-enum-known-s-2
-enum-known-s-2 c = search needs
-
-enum-told : tie.Need-enum-told
-enum-told c = search needs
-
-returns : tie.Need-returns
-returns c = search turn-laws
-
 returns-2 : tie.Need-returns-2
 returns-2 c = search turn-laws
-
-returns-3 : tie.Need-returns-3
-returns-3 c = search turn-laws
 
 pub turn-spec : {M : Type 1} → statement M
 turn-spec =
     tie.close
-    (tie.spec then-tag-requires enum-known-s add-add-value add-value-requires enum-known-s-2 enum-told returns returns-2
-    returns-3)
+    (tie.spec then-tag-requires enum-known-s returns add-add-value add-value-requires returns-2)

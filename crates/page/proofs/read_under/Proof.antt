@@ -1,8 +1,11 @@
--- What the fragment's reader says is said of the page: a refusal as it stands, and a summary by the two tests at the end.
--- Assumes nothing.
+-- The schema taught is that of a sound file. What the fragment's reader says is then said of the page: a refusal as it stands, and a
+-- summary by the two tests at the end. Assumes nothing.
 use Rattle.page.proofs.PageLaws.{page-turns}
 use Rattle.page.proofs.read_under.Statement.{statement}
 use Rattle.page.proofs.read_under.Tie as tie
+
+teach-requires : tie.Need-teach-requires
+teach-requires c κs = search page-turns
 
 summarise-requires : tie.Need-summarise-requires
 summarise-requires c κs = search page-turns
@@ -44,6 +47,7 @@ pub read-under-spec : {M : Type 1} → statement M
 read-under-spec =
     tie.close
     (tie.spec
+    teach-requires
     summarise-requires
     enum-told
     tested-requires

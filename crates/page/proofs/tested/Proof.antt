@@ -1,42 +1,27 @@
--- The balance is one of two. Tags left are answered at once; else the ending states are the sound file's, and the test of the relation
--- decides. Assumes nothing.
-use Rattle.page.proofs.EndingLaws.{ending-turns}
+-- The form has as many tags as its counts say, so the test of the counts and the last piece is the test of the form. Assumes nothing.
+use borrow.Author.Needs.{needs}
+use Rattle.page.proofs.PageLaws.{tested-is}
 use Rattle.page.proofs.tested.Statement.{statement}
 use Rattle.page.proofs.tested.Tie as tie
 
-balance-of-requires : tie.Need-balance-of-requires
-balance-of-requires c κs = search ending-turns
+add-piece-at : tie.Need-add-piece-at
+add-piece-at c = search needs
 
-enum-known-b : tie.Need-enum-known-b
-enum-known-b c = search ending-turns
+piece-at-requires : tie.Need-piece-at-requires
+piece-at-requires c κs = search needs
 
-enum-told : tie.Need-enum-told
-enum-told c = search ending-turns
+ending-of-requires : tie.Need-ending-of-requires
+ending-of-requires c κs = search needs
+
+reply-of-requires : tie.Need-reply-of-requires
+reply-of-requires c κs = search needs
 
 returns : tie.Need-returns
-returns c = search ending-turns
-
-ending-states-requires : tie.Need-ending-states-requires
-ending-states-requires c κs = search ending-turns
-
-accepts-requires : tie.Need-accepts-requires
-accepts-requires c κs = search ending-turns
-
-returns-2 : tie.Need-returns-2
-returns-2 c = search ending-turns
-
-returns-3 : tie.Need-returns-3
-returns-3 c = search ending-turns
+returns c =
+    let s = c .before .before .before .before .before .before .before .args .s in
+    tested-is _ s _ _ _ (c .before .before .piece-at .ensures) (c .before .ending-of .ensures) (c .reply-of .ensures)
 
 pub tested-spec : {M : Type 1} → statement M
 tested-spec =
     tie.close
-    (tie.spec
-    balance-of-requires
-    enum-known-b
-    enum-told
-    returns
-    ending-states-requires
-    accepts-requires
-    returns-2
-    returns-3)
+    (tie.spec add-piece-at piece-at-requires ending-of-requires reply-of-requires returns)

@@ -6,8 +6,11 @@ use Rattle.pairs.proofs.load.Tie as tie
 enum-told : tie.Need-enum-told
 enum-told c = search loads
 
-element-write-values : tie.Need-element-write-values
-element-write-values c = search loads
+put-piece-requires : tie.Need-put-piece-requires
+put-piece-requires c κs = search loads
+
+counted-requires : tie.Need-counted-requires
+counted-requires c κs = search loads
 
 enum-known-s : tie.Need-enum-known-s
 enum-known-s c = search loads
@@ -35,7 +38,8 @@ load-spec =
     tie.close
     (tie.spec
     enum-told
-    element-write-values
+    put-piece-requires
+    counted-requires
     enum-known-s
     load-tag-requires
     enum-known-s-2

@@ -1,4 +1,4 @@
--- The tag goes behind no others, with the empty word's relation before and after it (LoadLaws). Assumes nothing.
+-- The tag goes behind no others, with the empty word's piece before and after it (LoadLaws). Assumes nothing.
 use Rattle.pairs.proofs.LoadLaws.{loads}
 use Rattle.pairs.proofs.load_tag.Statement.{statement}
 use Rattle.pairs.proofs.load_tag.Tie as tie
@@ -6,14 +6,20 @@ use Rattle.pairs.proofs.load_tag.Tie as tie
 element-write-names : tie.Need-element-write-names
 element-write-names c = search loads
 
-element-write-values : tie.Need-element-write-values
-element-write-values c = search loads
+put-piece-requires : tie.Need-put-piece-requires
+put-piece-requires c κs = search loads
 
-element-write-values-2 : tie.Need-element-write-values-2
-element-write-values-2 c = search loads
+put-piece-requires-2 : tie.Need-put-piece-requires-2
+put-piece-requires-2 c κs = search loads
+
+counted-requires : tie.Need-counted-requires
+counted-requires c κs = search loads
 
 returns : tie.Need-returns
 returns c = search loads
+
+counted-requires-2 : tie.Need-counted-requires-2
+counted-requires-2 c κs = search loads
 
 returns-2 : tie.Need-returns-2
 returns-2 c = search loads
@@ -21,4 +27,11 @@ returns-2 c = search loads
 pub load-tag-spec : {M : Type 1} → statement M
 load-tag-spec =
     tie.close
-    (tie.spec element-write-names element-write-values element-write-values-2 returns returns-2)
+    (tie.spec
+    element-write-names
+    put-piece-requires
+    put-piece-requires-2
+    counted-requires
+    returns
+    counted-requires-2
+    returns-2)

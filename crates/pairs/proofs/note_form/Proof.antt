@@ -1,18 +1,7 @@
--- The row of the form is packed from bytes, looked for, and put behind the others where there is room (NoteLaws). Facts of the last return
--- are named by their places, for there are more of them than a search goes through. Assumes nothing.
-use borrow.Author.Needs.{needs}
-use Rattle.pairs.proofs.NoteLaws.{notes, note-behind}
+-- The row of the form is looked for, and put behind the others where there is room (NoteLaws). Assumes nothing.
+use Rattle.pairs.proofs.NoteLaws.{notes}
 use Rattle.pairs.proofs.note_form.Statement.{statement}
 use Rattle.pairs.proofs.note_form.Tie as tie
-
-add-invalid-form : tie.Need-add-invalid-form
-add-invalid-form c = search notes
-
-mul-invalid-form : tie.Need-mul-invalid-form
-mul-invalid-form c = search notes
-
-element-copy-out-invalid-form : tie.Need-element-copy-out-invalid-form
-element-copy-out-invalid-form c = search notes
 
 invalid-form-requires : tie.Need-invalid-form-requires
 invalid-form-requires c κs = search notes
@@ -23,11 +12,8 @@ tallied-requires c κs = search notes
 returns : tie.Need-returns
 returns c = search notes
 
-own-requires : tie.Need-own-requires
-own-requires c κs = search notes
-
-pack-requires : tie.Need-pack-requires
-pack-requires c κs = search notes
+row-of-requires : tie.Need-row-of-requires
+row-of-requires c κs = search notes
 
 slice-aggregate-holds : tie.Need-slice-aggregate-holds
 slice-aggregate-holds c = search notes
@@ -69,31 +55,16 @@ same-length-3 : tie.Need-same-length-3
 same-length-3 c = search notes
 
 returns-4 : tie.Need-returns-4
-returns-4 c =
-    let added = c .before .before .before in
-    let room = added .before .before .before in
-    let looked = room .before .before in
-    let packed = looked .before .before .before in
-    let copied = packed .before .before in
-    let told = copied .before .before .before in
-    let start = told .before .before .before .before in
-    let tally = c .tallied4 .ensures in
-    note-behind _ _ _ _ _ _ _ _ _ _ _ (tally .1) (tally .2) (told .invalid-form .ensures) _ _ _ (copied .own .ensures) (packed .pack .ensures)
-    (looked .holds .ensures) (start .pre .1 .0) (search needs) (search needs) _ (tally .0) (tally .3) (room .before .if2 .left)
-    (room .if3 .left) (added .add .ensures)
+returns-4 c = search notes
 
 pub note-form-spec : {M : Type 1} → statement M
 note-form-spec =
     tie.close
     (tie.spec
-    add-invalid-form
-    mul-invalid-form
-    element-copy-out-invalid-form
     invalid-form-requires
     tallied-requires
     returns
-    own-requires
-    pack-requires
+    row-of-requires
     slice-aggregate-holds
     holds-requires
     tallied-requires-2

@@ -1,22 +1,22 @@
 -- Before x the forms of the marked nonterminals below it are noted, and there are at most 256 rows (FormsLaws). Assumes nothing.
 use mathlib.Core.Path.{_≡_}
 use mathlib.Core.Logic.{⊎-elim}
-use Prim.Native.Nat.{_+_, _≤_, _-_}
-use lib.ListN.{length, getD}
-use Rattle.form.specs.Held.{stackOf}
+use Prim.Native.Nat.{_≤_, _-_}
+use lib.ListN.{length}
+use Rattle.form.specs.Held.{summaryOf, formOf, lastOf}
+use Rattle.worktable.specs.Packed.{mostImages}
 use Rattle.pairs.specs.Turns.{FormsNoted}
 use Rattle.pairs.proofs.FormsLaws.{forms-laws, forms-next}
 use Rattle.pairs.proofs.note_forms.Statement.{statement}
 use Rattle.pairs.proofs.note_forms.Tie as tie
 
 abbrev Inv-loop : tie.InvT-loop
-Inv-loop endings marks ends starts names values table₀ m found₀ x₀ table found x =
-    (x ≤ 64) × (found .rows ≤ 256) × (length table ≡ length table₀)
-    × FormsNoted endings marks (stackOf ends names values (ends + starts)) (getD values (ends + starts) 0) table₀ (found₀ .rows)
-    (found₀ .notes) x found table
+Inv-loop lore marks c names values table₀ tally₀ x₀ table tally x =
+    (x ≤ 64) × (tally .rows ≤ mostImages) × (length table ≡ length table₀)
+    × FormsNoted lore marks (formOf (summaryOf c names values)) (lastOf (summaryOf c names values)) table₀ tally₀ x tally table
 
 abbrev μ-loop : tie.MeasureT-loop
-μ-loop endings marks ends starts names values table₀ m found₀ x₀ table found x = 64 - x
+μ-loop lore marks c names values table₀ tally₀ x₀ table tally x = 64 - x
 
 loop-holds : tie.Need-loop-holds Inv-loop μ-loop
 loop-holds c = search forms-laws
@@ -29,9 +29,8 @@ marked-requires c κs = search forms-laws
 
 note-form-requires : tie.Need-note-form-requires Inv-loop μ-loop
 note-form-requires c κs =
-    let l = c .before .before .before .before .before .before in
-    let start = l .before .before .before in
-    (start .pre .0, (start .pre .1 .0, search forms-laws))
+    let start = c .before .before .before .before .before .before .before in
+    (start .pre .0, search forms-laws)
 
 add-x : tie.Need-add-x Inv-loop μ-loop
 add-x c = search forms-laws
@@ -44,11 +43,11 @@ loop-again c =
     let b = c .before in
     let l = b .before .before .before in
     ⊎-elim
-    (λ w. rw (w .6, w .7) (
+    (λ w. rw (w .5, w .6) (
       search forms-laws,
       search forms-laws,
       search forms-laws,
-      search (forms-next, l .loop .inv .3, b .before .wide .ensures .0, b .marked .ensures, w .0 .taken, w .3 .ensures),
+      search (forms-next, l .loop .inv .3, b .before .wide .ensures .0, b .marked .ensures, w .0 .taken, w .2 .ensures),
     ))
     (λ w. rw (w .1, w .2) (search forms-laws))
     (c .if1 .came)

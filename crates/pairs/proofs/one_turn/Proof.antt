@@ -5,21 +5,28 @@ use Rattle.pairs.proofs.TurnLaws.{one-turn-laws, loaded-holds, loaded-r
 use Rattle.pairs.proofs.one_turn.Statement.{statement}
 use Rattle.pairs.proofs.one_turn.Tie as tie
 
--- from the call of `then_form` back to where the left and the right choice were told and loaded, and to the start
-abbrev left : tie.After-relations2 → tie.After-a
+-- from the call of `then_form` back to where the left and the right choice were told and loaded, to the empty word's piece, and to the
+-- start
+abbrev left : tie.After-parts2 → tie.After-a
 left c = c .before .before .before .before .before
 
-abbrev left-load : tie.After-relations2 → tie.After-load2
+abbrev left-load : tie.After-parts2 → tie.After-load2
 left-load c = left c .before .before
 
-abbrev right : tie.After-relations2 → tie.After-b
+abbrev right : tie.After-parts2 → tie.After-b
 right c = left-load c .before .before .before .before .before
 
-abbrev right-load : tie.After-relations2 → tie.After-load
+abbrev right-load : tie.After-parts2 → tie.After-load
 right-load c = right c .before .before
 
-abbrev start : tie.After-relations2 → tie.Start
-start c = right-load c .before .before .before .before .before .before .before
+abbrev made : tie.After-parts2 → tie.After-empty
+made c = right-load c .before .before .before .before
+
+abbrev start : tie.After-parts2 → tie.Start
+start c = made c .before .before
+
+empty-requires : tie.Need-empty-requires
+empty-requires c κs = search one-turn-laws
 
 load-requires : tie.Need-load-requires
 load-requires c κs = search one-turn-laws
@@ -50,10 +57,9 @@ same-length-2 c = search one-turn-laws
 
 returns-2 : tie.Need-returns-2
 returns-2 c =
-    search (turn-no-left, c .before .before .load2 .ensures, c .enum-told2 .given .1)
-
-add-then-form : tie.Need-add-then-form
-add-then-form c = search one-turn-laws
+    let left-load = c .before .before in
+    let right-load = left-load .before .before .before .before .before .before .before in
+    search (turn-no-left, left-load .load2 .ensures, c .enum-told2 .given .1, right-load .before .before .before .before .empty .ensures)
 
 then-form-requires : tie.Need-then-form-requires
 then-form-requires c κs = (
@@ -71,10 +77,7 @@ note-forms-requires : tie.Need-note-forms-requires
 note-forms-requires c κs =
     let told = c .before .before .before .before in
     let q = told .before .before in
-    let s = start (q .before) in (
-      s .pre .0 .ends-below,
-      (search (kept-holds, q .then-form .ensures, told .t .given .1), s .pre .1 .1 .1),
-    )
+    (search (kept-holds, q .then-form .ensures, told .t .given .1), start (q .before) .pre .1 .1 .1)
 
 enum-told-3 : tie.Need-enum-told-3
 enum-told-3 c = search one-turn-laws
@@ -90,18 +93,19 @@ same-length-3 c = search one-turn-laws
 
 returns-3 : tie.Need-returns-3
 returns-3 c =
-    let told = c .before .before .before .before .before .before .before .before in
+    let told = c .before .before .before .before .before .before .before in
     let q = told .before .before in
     let p = q .before in
     search (
       turn-form,
+      made p .empty .ensures,
       left-load p .load2 .ensures,
       left p .a .given .1,
       right-load p .load .ensures,
       right p .b .given .1,
       q .then-form .ensures,
       told .t .given .1,
-      c .before .before .before .note-forms .ensures,
+      c .before .before .note-forms .ensures,
     )
 
 same-length-4 : tie.Need-same-length-4
@@ -113,6 +117,7 @@ returns-4 c =
     let p = q .before in
     search (
       turn-mismatch,
+      made p .empty .ensures,
       left-load p .load2 .ensures,
       left p .a .given .1,
       right-load p .load .ensures,
@@ -130,6 +135,7 @@ returns-5 c =
     let p = q .before in
     search (
       turn-deep,
+      made p .empty .ensures,
       left-load p .load2 .ensures,
       left p .a .given .1,
       right-load p .load .ensures,
@@ -143,6 +149,7 @@ pub one-turn-spec : {M : Type 1} → statement M
 one-turn-spec =
     tie.close
     (tie.spec
+    empty-requires
     load-requires
     enum-known-b
     enum-told
@@ -153,7 +160,6 @@ one-turn-spec =
     enum-told-2
     same-length-2
     returns-2
-    add-then-form
     then-form-requires
     enum-known-t
     note-forms-requires

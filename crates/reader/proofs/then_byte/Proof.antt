@@ -12,8 +12,8 @@ enum-known-class c = search feeds
 then-tag-requires : tie.Need-then-tag-requires
 then-tag-requires c κs = search feeds
 
-fed-requires : tie.Need-fed-requires
-fed-requires c κs = search feeds
+progressed-requires : tie.Need-progressed-requires
+progressed-requires c κs = search feeds
 
 enum-known-class-2 : tie.Need-enum-known-class-2
 enum-known-class-2 c = search feeds
@@ -21,8 +21,8 @@ enum-known-class-2 c = search feeds
 then-tag-requires-2 : tie.Need-then-tag-requires-2
 then-tag-requires-2 c κs = search feeds
 
-fed-requires-2 : tie.Need-fed-requires-2
-fed-requires-2 c κs = search feeds
+progressed-requires-2 : tie.Need-progressed-requires-2
+progressed-requires-2 c κs = search feeds
 
 enum-told : tie.Need-enum-told
 enum-told c = search feeds
@@ -43,10 +43,10 @@ then-byte-spec =
     class-of-requires
     enum-known-class
     then-tag-requires
-    fed-requires
+    progressed-requires
     enum-known-class-2
     then-tag-requires-2
-    fed-requires-2
+    progressed-requires-2
     enum-told
     returns
     returns-2

@@ -1,8 +1,11 @@
--- The start is marked exactly where it derives some page, and what is reached is then useful (PartLaws). Assumes nothing.
+-- The start is marked exactly where it derives some page, and what is reached is then useful (PartLaws); so the shares are found, and
+-- they are those of the file's rules. Assumes nothing.
 use mathlib.Core.Path.{refl}
+use denote.Ref.{now}
 use borrow.Author.Needs.{needs}
 use Rattle.template.proofs.ShapeLaws.{shape-sound}
-use Rattle.rounds.proofs.PartLaws.{part-ruled, marked-page, unmarked-no-page, reached-useful}
+use Rattle.shares.specs.Shares.{Shares}
+use Rattle.rounds.proofs.PartLaws.{of-file, part-in-range, part-few, marked-page, unmarked-no-page, reached-useful}
 use Rattle.rounds.proofs.check_sound.Statement.{statement}
 use Rattle.rounds.proofs.check_sound.Tie as tie
 
@@ -12,7 +15,7 @@ template-rules-requires c κs = search needs
 productive-requires : tie.Need-productive-requires
 productive-requires c κs =
     let s = c .before .before .before in
-    part-ruled _ _ (s .pre .0) _ (c .template-rules .ensures)
+    part-in-range _ (s .pre .0) (c .template-rules .ensures)
 
 marked-requires : tie.Need-marked-requires
 marked-requires c κs = search needs
@@ -23,7 +26,7 @@ returns c =
     let s = p .before .before .before .before in (
       s .pre .1,
       shape-sound _ _ (s .pre .0),
-      unmarked-no-page _ _ (s .pre .0) _ (p .before .template-rules .ensures) _ (p .productive .ensures) _ (c .before .marked .ensures)
+      unmarked-no-page _ (s .pre .0) (p .before .template-rules .ensures) _ (p .productive .ensures) _ (c .before .marked .ensures)
           (c .if1 .taken),
       refl,
     )
@@ -32,21 +35,46 @@ reached-requires : tie.Need-reached-requires
 reached-requires c κs =
     let p = c .before .before in
     let s = p .before .before .before .before in
-    (part-ruled _ _ (s .pre .0) _ (p .before .template-rules .ensures), p .productive .ensures)
+    (part-in-range _ (s .pre .0) (p .before .template-rules .ensures), p .productive .ensures)
+
+share-requires : tie.Need-share-requires
+share-requires c κs =
+    let i = c .before .before in
+    let p = i .before .before in
+    let s = p .before .before .before .before in
+    let part = p .before .template-rules .ensures in (
+      part-in-range _ (s .pre .0) part,
+      (
+        p .productive .ensures,
+        (
+          reached-useful _ (s .pre .0) part _ (p .productive .ensures) _ (i .before .marked .ensures) (i .if1 .left) _
+              (c .before .reached .ensures),
+          (part-few _ (s .pre .0) part, refl),
+        ),
+      ),
+    )
+
+teach-requires : tie.Need-teach-requires
+teach-requires c κs = search needs
 
 rounds-requires : tie.Need-rounds-requires
 rounds-requires c κs =
-    let i = c .before .before in
+    let taught = c .before .before .before in
+    let shared = taught .before .before in
+    let i = shared .before .before .before in
     let p = i .before .before in
-    let s = p .before .before .before .before in (
+    let s = p .before .before .before .before in
+    let f = now (s .args .file) in
+    let part = p .before .template-rules .ensures in (
       s .pre .0,
       (
-        marked-page _ _ (s .pre .0) _ (p .before .template-rules .ensures) _ (p .productive .ensures) _ (i .before .marked .ensures)
-            (i .if1 .left),
+        taught .teach .ensures,
         (
-          reached-useful _ _ (s .pre .0) _ (p .before .template-rules .ensures) _ (p .productive .ensures) _ (i .before .marked .ensures)
-              (i .if1 .left) _ (c .before .reached .ensures),
-          s .pre .1,
+          of-file f (s .pre .0) part (λ rules. Shares rules (shared .share .last .1 .1 .1 .0)) (shared .share .ensures),
+          (
+            marked-page f (s .pre .0) part _ (p .productive .ensures) _ (i .before .marked .ensures) (i .if1 .left),
+            s .pre .1,
+          ),
         ),
       ),
     )
@@ -66,6 +94,8 @@ check-sound-spec =
     marked-requires
     returns
     reached-requires
+    share-requires
+    teach-requires
     rounds-requires
     same-length
     returns-2)

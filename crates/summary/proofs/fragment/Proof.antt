@@ -1,24 +1,29 @@
--- A bad file is refused with its place; under a sound one the bytes are read. Assumes nothing.
-use borrow.Author.Needs.{needs}
+-- A bad file is refused with its place. Of a sound one the schema is taught, and what reading finds with it is found under the file.
+-- Assumes nothing.
+use Rattle.summary.proofs.FragmentLaws.{taught-lore, says-bad, fragment-turns}
 use Rattle.template.proofs.ShapeLaws.{read-is}
-use Rattle.summary.proofs.FragmentLaws.{says-bad, fragment-turns}
 use Rattle.summary.proofs.fragment.Statement.{statement}
 use Rattle.summary.proofs.fragment.Tie as tie
 
 read-requires : tie.Need-read-requires
-read-requires c κs = search needs
+read-requires c κs = search fragment-turns
 
 enum-known-r : tie.Need-enum-known-r
-enum-known-r c = search needs
+enum-known-r c = search fragment-turns
 
 refused-requires : tie.Need-refused-requires
-refused-requires c κs = search needs
+refused-requires c κs = search fragment-turns
 
 enum-known-r-2 : tie.Need-enum-known-r-2
-enum-known-r-2 c = search needs
+enum-known-r-2 c = search fragment-turns
+
+teach-requires : tie.Need-teach-requires
+teach-requires c κs = search fragment-turns
 
 summarise-requires : tie.Need-summarise-requires
-summarise-requires c κs = search fragment-turns
+summarise-requires c κs =
+    let known = c .before .before .before .before in
+    taught-lore _ _ (read-is _ _ _ (known .before .before .read .ensures) (known .r2 .given .1)) _ (c .before .teach .ensures)
 
 returns : tie.Need-returns
 returns c =
@@ -37,6 +42,7 @@ fragment-spec =
     enum-known-r
     refused-requires
     enum-known-r-2
+    teach-requires
     summarise-requires
     returns
     returns-2)

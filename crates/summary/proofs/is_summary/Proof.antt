@@ -1,9 +1,11 @@
 -- Each test that fails names a field of a summary that the struct has not; where all hold, the last decides. Assumes nothing.
 use mathlib.Core.Path.{_≡_}
-use Prim.Native.Nat.{_+_, _≤_}
+use Prim.Native.Nat.{_≤_}
 use lib.ListN.{length}
 use native.Mathlib.Omega.{arith}
 use borrow.Author.Needs.{needs}
+use Rattle.pieces.specs.Pieces.{mostTags, piecesLong}
+use Rattle.form.specs.Held.{tagCount}
 use Rattle.summary.proofs.PackingLaws.{many-ends-fail, many-tags-fail, names-fail, summary-pass}
 use Rattle.summary.proofs.is_summary.Statement.{statement}
 use Rattle.summary.proofs.is_summary.Tie as tie
@@ -27,34 +29,27 @@ names-fit-requires c κs = search needs
 
 returns-3 : tie.Need-returns-3
 returns-3 c =
-    let s = c .before .before .before .before .before .before .before .args .s in
-    let room : length (s .names) ≡ 16 = search needs in
-    let few : s .ends + s .starts ≤ 16 = omega arith in
+    let s = c .before .before .before .before .before .before .before .before .before .before .before .before .args .s in
+    let room : length (s .names) ≡ mostTags = search needs in
+    let few : tagCount (s .counts) ≤ mostTags = omega arith in
     names-fail _ _ s room few (c .before .names-fit .result) (c .before .names-fit .ensures) (c .if3 .taken)
 
-slice-aggregate-values-fit : tie.Need-slice-aggregate-values-fit
-slice-aggregate-values-fit c = search needs
-
-full-requires : tie.Need-full-requires
-full-requires c κs = search needs
-
-values-fit-requires : tie.Need-values-fit-requires
-values-fit-requires c κs = search needs
+pieces-fit-requires : tie.Need-pieces-fit-requires
+pieces-fit-requires c κs = search needs
 
 returns-4 : tie.Need-returns-4
 returns-4 c =
-    let s = c .before .before .before .before .before .before .before .before .before .before .args .s in
-    let names-room : length (s .names) ≡ 16 = search needs in
-    let relations-room : length (s .relations) ≡ 17 = search needs in
-    let few : s .ends + s .starts ≤ 16 = omega arith in
-    let names = c .before .before .before .before .names-fit in
-    summary-pass _ _ s names-room few relations-room (names .result) (c .values-fit .result) (names .ensures)
-    (c .before .before .before .if3 .left) (c .before .full .result) (c .before .full .ensures) (c .values-fit .ensures .0)
-    (c .values-fit .ensures .1)
+    let start = c .before .before .before .before .before .before .before .before .before .before .before .before .before .before in
+    let s = start .args .s in
+    let names-room : length (s .names) ≡ mostTags = search needs in
+    let values-room : length (s .values) ≡ piecesLong = search needs in
+    let few : tagCount (s .counts) ≤ mostTags = omega arith in
+    let names = c .before .before .before .names-fit in
+    summary-pass _ _ s names-room few values-room (start .pre) (names .result) (c .pieces-fit .result) (names .ensures)
+    (c .before .before .if3 .left) (c .pieces-fit .ensures)
 
 pub is-summary-spec : {M : Type 1} → statement M
 is-summary-spec =
     tie.close (
-    tie.spec returns returns-2 add-n slice-aggregate-names-fit names-fit-requires returns-3 slice-aggregate-values-fit full-requires
-    values-fit-requires returns-4
+    tie.spec returns returns-2 add-n slice-aggregate-names-fit names-fit-requires returns-3 pieces-fit-requires returns-4
     )

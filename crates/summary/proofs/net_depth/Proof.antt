@@ -40,29 +40,29 @@ returns c =
 
 difference-requires : tie.Need-difference-requires
 difference-requires c κs =
-    let read = c .before .before .before .before .before .before .read in
-    let known = c .before .before .before .before .r2 .given in
-    let wide = c .before .before .wide in
-    let test = c .before .is-summary in
+    let read = c .before .before .before .before .before .before .before .read in
+    let known = c .before .before .before .before .before .r2 .given in
+    let wide = c .before .before .before .wide in
+    let test = c .before .before .is-summary in
     passed-summary _ _ (read-is _ _ _ (read .ensures) (known .1)) (wide .result) (wide .ensures .0) _ (test .result) (test .ensures)
-    (c .if1 .left) .few
+    (c .before .if1 .left) .few
 
 returns-2 : tie.Need-returns-2
 returns-2 c = sym (c .before .before .before .read .ensures) ∙ c .before .r .given .1
 
 returns-3 : tie.Need-returns-3
 returns-3 c =
-    let s = c .before .before .before .before .before .before .before .before .before .args .s in
-    let read = c .before .before .before .before .before .before .before .read in
-    let known = c .before .before .before .before .before .r2 .given in
-    let wide = c .before .before .before .wide in
-    let test = c .before .before .is-summary in
+    let s = c .before .before .before .before .before .before .before .before .before .before .args .s in
+    let read = c .before .before .before .before .before .before .before .before .read in
+    let known = c .before .before .before .before .before .before .r2 .given in
+    let wide = c .before .before .before .before .wide in
+    let test = c .before .before .before .is-summary in
     let summary = passed-summary _ _ (read-is _ _ _ (read .ensures) (known .1)) (wide .result) (wide .ensures .0) s (test .result)
-    (test .ensures) (c .before .if1 .left) in (
+    (test .ensures) (c .before .before .if1 .left) in (
       shape-sound _ _ (read-is _ _ _ (read .ensures) (known .1)),
       summary,
-      difference-again (s .starts) (s .ends) (summary .few) (c .difference .result) (c .difference .ensures)
-          ∙ sym (net-held (s .ends) (s .starts) (s .names) (s .relations)),
+      difference-again (s .counts .starts) (s .counts .ends) (summary .few) (c .difference .result) (c .difference .ensures)
+          ∙ sym (net-held (s .counts .ends) (s .counts .starts) (s .names) (s .values)),
     )
 
 pub net-depth-spec : {M : Type 1} → statement M

@@ -9,11 +9,11 @@ use Rattle.useful.proofs.pass_down.Statement.{statement}
 use Rattle.useful.proofs.pass_down.Tie as tie
 
 abbrev Inv-loop : tie.InvT-loop
-Inv-loop rules fruitful marks m₀ i₀ m i =
-    (i ≤ length rules / 4) × Passed (Reached (Gives rules)) (KeptBelow (KeptDown rules fruitful) i) marks m
+Inv-loop rules productive marks m₀ i₀ m i =
+    (i ≤ length rules / 4) × Passed (Reached (Gives rules)) (KeptBelow (KeptDown rules productive) i) marks m
 
 abbrev μ-loop : tie.MeasureT-loop
-μ-loop rules fruitful marks m₀ i₀ m i = length rules / 4 - i
+μ-loop rules productive marks m₀ i₀ m i = length rules / 4 - i
 
 loop-holds : tie.Need-loop-holds Inv-loop μ-loop
 loop-holds c = search passes

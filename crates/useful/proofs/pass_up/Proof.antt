@@ -1,13 +1,15 @@
 -- After i turns the steps of the i first rules are done. Assumes nothing.
 use Prim.Native.Nat.{_≤_, _-_, _/_}
 use lib.ListN.{length}
-use Rattle.useful.specs.Marks.{Fruitful, Passed, KeptBelow, KeptUp}
+use Rattle.template.specs.Grammar.{Gives}
+use Rattle.trees.specs.Trees.{Productive}
+use Rattle.useful.specs.Marks.{Passed, KeptBelow, KeptUp}
 use Rattle.useful.proofs.CloseLaws.{passes}
 use Rattle.useful.proofs.pass_up.Statement.{statement}
 use Rattle.useful.proofs.pass_up.Tie as tie
 
 abbrev Inv-loop : tie.InvT-loop
-Inv-loop rules marks m₀ i₀ m i = (i ≤ length rules / 4) × Passed (Fruitful rules) (KeptBelow (KeptUp rules) i) marks m
+Inv-loop rules marks m₀ i₀ m i = (i ≤ length rules / 4) × Passed (Productive (Gives rules)) (KeptBelow (KeptUp rules) i) marks m
 
 abbrev μ-loop : tie.MeasureT-loop
 μ-loop rules marks m₀ i₀ m i = length rules / 4 - i

@@ -1,12 +1,14 @@
 -- Each mark stays justified, and a pass that adds none has kept every rule. A pass that adds some makes the number larger. Assumes nothing.
 use Prim.Native.Nat.{_-_}
-use Rattle.useful.specs.Marks.{Fruitful, Justified}
+use Rattle.template.specs.Grammar.{Gives}
+use Rattle.trees.specs.Trees.{Productive}
+use Rattle.useful.specs.Marks.{Justified}
 use Rattle.useful.proofs.CloseLaws.{passes}
 use Rattle.useful.proofs.productive.Statement.{statement}
 use Rattle.useful.proofs.productive.Tie as tie
 
 abbrev Inv-loop : tie.InvT-loop
-Inv-loop rules m₀ m = Justified (Fruitful rules) m
+Inv-loop rules m₀ m = Justified (Productive (Gives rules)) m
 
 abbrev μ-loop : tie.MeasureT-loop
 μ-loop rules m₀ m = 18446744073709551616 - m

@@ -12,10 +12,10 @@ use Rattle.useful.proofs.reached.Statement.{statement}
 use Rattle.useful.proofs.reached.Tie as tie
 
 abbrev Inv-loop : tie.InvT-loop
-Inv-loop rules fruitful m₀ m = (bit m 0 ≡ true) × Justified (Reached (Gives rules)) m
+Inv-loop rules productive m₀ m = (bit m 0 ≡ true) × Justified (Reached (Gives rules)) m
 
 abbrev μ-loop : tie.MeasureT-loop
-μ-loop rules fruitful m₀ m = 18446744073709551616 - m
+μ-loop rules productive m₀ m = 18446744073709551616 - m
 
 loop-holds : tie.Need-loop-holds Inv-loop μ-loop
 loop-holds c = search passes

@@ -1,28 +1,28 @@
--- By the slot: only a row can be another nonterminal's (LoadLaws). Assumes nothing.
-use Rattle.pairs.proofs.LoadLaws.{loads}
+-- By the slot: only a row can be another nonterminal's (ChoiceLaws). Assumes nothing.
+use Rattle.walk.proofs.ChoiceLaws.{choosing}
 use Rattle.walk.proofs.fits.Statement.{statement}
 use Rattle.walk.proofs.fits.Tie as tie
 
 enum-told : tie.Need-enum-told
-enum-told c = search loads
+enum-told c = search choosing
 
 enum-told-2 : tie.Need-enum-told-2
-enum-told-2 c = search loads
+enum-told-2 c = search choosing
 
 enum-known-s : tie.Need-enum-known-s
-enum-known-s c = search loads
+enum-known-s c = search choosing
 
 row-fits-requires : tie.Need-row-fits-requires
-row-fits-requires c κs = search loads
+row-fits-requires c κs = search choosing
 
 returns : tie.Need-returns
-returns c = search loads
+returns c = search choosing
 
 returns-2 : tie.Need-returns-2
-returns-2 c = search loads
+returns-2 c = search choosing
 
 returns-3 : tie.Need-returns-3
-returns-3 c = search loads
+returns-3 c = search choosing
 
 pub fits-spec : {M : Type 1} → statement M
 fits-spec =

@@ -1,0 +1,15 @@
+-- The lore's test of the piece's relation. Assumes nothing.
+use Rattle.pieces.specs.Pieces.{acceptsPiece}
+use Rattle.pieces.proofs.PieceLaws.{parts}
+use Rattle.pieces.proofs.accepts.Statement.{statement}
+use Rattle.pieces.proofs.accepts.Tie as tie
+
+accepts-requires : tie.Need-accepts-requires
+accepts-requires c κs = search parts
+
+returns : tie.Need-returns
+unfolding acceptsPiece
+returns c = search parts
+
+pub accepts-spec : {M : Type 1} → statement M
+accepts-spec = tie.close (tie.spec accepts-requires returns)

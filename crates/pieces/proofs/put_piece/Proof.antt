@@ -1,0 +1,18 @@
+-- One entry written. Assumes nothing.
+use Rattle.pieces.specs.Pieces.{putPiece}
+use Rattle.pieces.proofs.PieceLaws.{parts}
+use Rattle.pieces.proofs.put_piece.Statement.{statement}
+use Rattle.pieces.proofs.put_piece.Tie as tie
+
+mul-pieces : tie.Need-mul-pieces
+mul-pieces c = search parts
+
+element-write-pieces : tie.Need-element-write-pieces
+element-write-pieces c = search parts
+
+returns : tie.Need-returns
+unfolding putPiece
+returns c = search parts
+
+pub put-piece-spec : {M : Type 1} → statement M
+put-piece-spec = tie.close (tie.spec mul-pieces element-write-pieces returns)

@@ -1,0 +1,10 @@
+pub mod RoomLaws
+pub mod TableLaws
+pub mod OrderLaws
+pub mod PutLaws
+pub mod SortLaws
+pub mod CompareLaws
+pub mod LookLaws
+pub mod MoveLaws
+pub mod StoreLaws
+pub mod ClearLaws

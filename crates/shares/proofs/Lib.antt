@@ -1,0 +1,2 @@
+pub mod ShareLaws
+pub mod GatherLaws
