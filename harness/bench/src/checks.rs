@@ -1,5 +1,6 @@
 //! Checks: the library against the plain implementation.
-use crate::files::{chain, circle, k, Set};
+use crate::circles::{circle, large_circle, small_circle, with_back, with_barren, with_unreached};
+use crate::files::{chain, k, Set};
 use crate::sets::{hostile, program};
 use crate::table::{section, Growth};
 use crate::timing::{best, job, now};
@@ -42,6 +43,12 @@ fn timed_row(table: &mut Growth, first: &[String], set: &Set) {
     table.row(&[first, &[answer]].concat(), times);
 }
 
+/// A set's label, nonterminals and rules.
+fn sized(label: &str, set: &Set) -> Vec<String> {
+    let numbers = [set.nonterminals as usize, set.rules.len()].map(|n| n.to_string());
+    [&[label.to_string()], &numbers[..]].concat()
+}
+
 pub fn sets() {
     section(
         "Checks",
@@ -72,12 +79,7 @@ pub fn sets() {
             hostile(10, 8, 64, 77),
         ),
     ] {
-        let numbers = [set.nonterminals as usize, set.rules.len()].map(|n| n.to_string());
-        timed_row(
-            &mut table,
-            &[&[label.to_string()], &numbers[..]].concat(),
-            &set,
-        );
+        timed_row(&mut table, &sized(label, &set), &set);
     }
 }
 
@@ -86,6 +88,37 @@ pub fn by_rounds() {
     let mut table = headed(&["nonterminals"]);
     for n in [8, 16, 32, 64] {
         timed_row(&mut table, &[n.to_string()], &circle(n));
+    }
+}
+
+pub fn of_many_rules() {
+    section(
+        "A check of 256 rules and 257 rounds",
+        "A circle of 8 goes round 32 times, with 9 rules; beside them stand 247 useless ones, which change no reply and no row. Then a \
+         circle of 64 goes round four times, with 65 rules; beside them stand 191 useful ones, which find nothing new. No two of these \
+         rules have the same right side. \"Its first row\" is the circle alone.",
+    );
+    let mut table = headed(&["set", "nonterminals", "rules"]);
+    let (small, large) = (small_circle(), large_circle());
+    for (label, set) in [
+        ("circle of 8 alone", small.clone()),
+        (
+            "256 rules, 257 rounds: 247 whose left side is not reached or derives nothing",
+            with_unreached(&small),
+        ),
+        (
+            "256 rules, 257 rounds: 247 with a nonterminal on the right side that derives nothing",
+            with_barren(&small),
+        ),
+    ] {
+        timed_row(&mut table, &sized(label, &set), &set);
+    }
+    table.afresh();
+    for (label, set) in [
+        ("circle of 64 alone", large.clone()),
+        ("256 rules, 257 rounds: all useful", with_back(&large)),
+    ] {
+        timed_row(&mut table, &sized(label, &set), &set);
     }
 }
 

@@ -5,6 +5,11 @@ use std::collections::BTreeSet;
 
 pub type Entry = [u8; 4];
 
+/// The byte of a nonterminal on a right side.
+pub fn symbol(nonterminal: u8) -> u8 {
+    64 + nonterminal
+}
+
 /// What a file holds; `bytes` lays it out as document 01 says.
 #[derive(Clone, Default)]
 pub struct Set {
@@ -64,6 +69,15 @@ pub fn open_schema(names: u8, states: u8, rules: usize) -> Set {
     }
 }
 
+/// A schema of 4 names, 8 states and so many rules, of which all but the first 4 never apply: no word leads from state 7 to an ending
+/// one. So a page has the same relations under each of them.
+pub fn idle_schema(rules: usize) -> Set {
+    let mut set = open_schema(4, 8, 4);
+    let idle = (1..8).flat_map(|x| (0..8).flat_map(move |z| (0..4).map(move |a| [x, a, 7, z])));
+    set.schema.extend(idle.take(rules - 4));
+    set
+}
+
 /// 64 nonterminals in a chain, each giving the next; the last gives one of four empty elements, or also the empty string.
 pub fn chain(with_empty: bool) -> Set {
     let mut rules: BTreeSet<Entry> = (0..63).map(|i| [i, 1, 65 + i, 255]).collect();
@@ -78,19 +92,5 @@ pub fn chain(with_empty: bool) -> Set {
         rules,
         schema: (0..4).map(|i| [0, i, 0, i + 1]).collect(),
         endings: (0..5).collect(),
-    }
-}
-
-/// So many nonterminals in a circle that nests one element more each time round: one new image in each round, four times round.
-pub fn circle(n: u8) -> Set {
-    let mut rules: BTreeSet<Entry> = (0..n - 2).map(|i| [i, 1, 65 + i, 255]).collect();
-    rules.extend([[n - 2, 2, 63 + n, 32], [n - 1, 2, 0, 64], [n - 2, 2, 0, 32]]);
-    Set {
-        names: 1,
-        nonterminals: n,
-        states: 6,
-        rules,
-        schema: BTreeSet::from([[0, 0, 0, 1], [2, 0, 3, 1], [3, 0, 4, 1], [4, 0, 5, 1]]),
-        endings: BTreeSet::from([0, 1, 5]),
     }
 }

@@ -1,6 +1,7 @@
 //! Prints the tables of docs/PERFORMANCE.md: `cargo run --release -p bench`. Best of several interleaved repetitions. The
 //! ratios go to the output, the times to the error output.
 mod checks;
+mod circles;
 mod expat;
 mod files;
 mod joins;
@@ -12,6 +13,7 @@ mod timing;
 
 fn main() {
     pages::by_rules_and_depth();
+    pages::by_rules();
     pages::by_states();
     pages::by_length();
     pages::fragments();
@@ -19,6 +21,7 @@ fn main() {
     joins::net_depths();
     checks::sets();
     checks::by_rounds();
+    checks::of_many_rules();
     checks::by_images();
     checks::by_rules();
     peers_page::against_peers();

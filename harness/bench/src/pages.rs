@@ -1,5 +1,5 @@
 //! Pages and fragments: the library against the plain implementation.
-use crate::files::{open_schema, Set};
+use crate::files::{idle_schema, open_schema, Set};
 use crate::table::{section, Growth};
 use crate::timing::{best, job};
 use seeds::Rng;
@@ -49,6 +49,25 @@ pub fn by_rules_and_depth() {
             table.row(
                 &[rules.to_string(), depth.to_string()],
                 tag_times(&set, &page),
+            );
+        }
+    }
+}
+
+pub fn by_rules() {
+    section(
+        "An end tag by schema rules",
+        "20,000 tags, 4 names, 8 states: for one depth the same page in each row, and the same relations. All but 4 rules never apply; they \
+         are of the page's own names. \"Its first row\" is that of the same depth.",
+    );
+    let mut table = Growth::new(&["depth", "schema rules"]);
+    for depth in [1, 8, 15] {
+        table.afresh();
+        let page = comb(&idle_schema(4), depth, 20_000);
+        for rules in [4, 32, 128] {
+            table.row(
+                &[depth.to_string(), rules.to_string()],
+                tag_times(&idle_schema(rules), &page),
             );
         }
     }

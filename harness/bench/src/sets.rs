@@ -1,5 +1,5 @@
 //! Larger template sets: of the sizes in the source's Table 1, and hostile ones.
-use crate::files::{Entry, Set};
+use crate::files::{symbol, Entry, Set};
 use seeds::Rng;
 use std::collections::BTreeSet;
 
@@ -40,10 +40,6 @@ pub fn page_schema() -> Set {
         schema: BTreeSet::from(schema),
         endings: BTreeSet::from([FLOW, INLINE, ITEMS, DONE]),
     }
-}
-
-fn symbol(nonterminal: u8) -> u8 {
-    64 + nonterminal
 }
 
 /// A set of so many nonterminals and rules, whose longest reduced form has so many tags. The page is a chain of openers (html, a

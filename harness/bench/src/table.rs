@@ -52,6 +52,11 @@ impl Growth {
         Growth { first: None }
     }
 
+    /// The next row is the first of those that follow it.
+    pub fn afresh(&mut self) {
+        self.first = None;
+    }
+
     pub fn row(&mut self, cells: &[String], times: [f64; 2]) {
         let [ours, theirs] = times;
         let first = *self.first.get_or_insert(times);
