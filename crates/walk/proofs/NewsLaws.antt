@@ -8,7 +8,7 @@ use mathlib.Core.Logic.{⊎-elim}
 use Prim.Native.Nat.{ℕ, zero, suc, _+_, _-_, _*_, _%_, _≤_, _<_}
 use native.Mathlib.Decide.{decLt}
 use native.Mathlib.Omega.{arith}
-use lib.ListN.{take, drop}
+use lib.ListN.{getD, take, drop}
 use borrow.Author.Needs.{needs}
 use borrow.Author.Tests.{eq-eqb}
 use Rattle.words.specs.Reduced.{Stack}
@@ -24,7 +24,7 @@ use Rattle.pairs.specs.Slots.{Choice, newFrom}
 use Rattle.pairs.specs.declared.Slot.{Slot}
 use Rattle.pairs.specs.declared.Slot.the-variants.{Absent, Single, Rows}
 use Rattle.shares.proofs.ShareLaws.{below-next}
-use Rattle.walk.specs.News.{marksFrom, news, renews}
+use Rattle.walk.specs.News.{marksFrom, news, renews, PassedOver}
 use Rattle.walk.proofs.ValidLaws.{or-false-right}
 
 module _ (t : List ℕ) where
@@ -96,4 +96,16 @@ module _ (s : Slot) (fresh : ℕ) (first : Bool) where
   unfolding renews
   renews-rows x w t e wide q = rw (e, q, wide)
 
-pub ruleset news-laws = (news-none, news-next, news-end, renews-absent, renews-single, renews-rows, needs)
+-- ---- the rules that are passed over
+
+pub passed-none : (shares : List ℕ) (i : ℕ) → PassedOver shares i i
+passed-none shares i = record { forward = omega arith; unmarked = λ a l h. absurd (omega arith) }
+
+pub passed-next : (shares : List ℕ) (i k : ℕ) → PassedOver shares i k → getD shares k 0 ≤ 0 → PassedOver shares i (k + 1)
+passed-next shares i k over none =
+    record {
+      forward = omega (arith, over .forward);
+      unmarked = λ a l h. ⊎-elim (λ m. over .unmarked a l m) (λ e. rw e (omega arith)) (below-next a k h);
+    }
+
+pub ruleset news-laws = (passed-none, passed-next, news-none, news-next, news-end, renews-absent, renews-single, renews-rows, needs)

@@ -6,6 +6,7 @@ use mathlib.Core.Bool.{Bool, true, false, false≢true}
 use mathlib.Core.List.{List}
 use mathlib.Core.Logic.{_⊎_, inl, inr, ⊎-elim}
 use Prim.Native.Nat.{ℕ, _+_, _/_, _≤_, _<_}
+use native.Mathlib.Decide.{decLt}
 use native.Mathlib.Omega.{arith}
 use lib.Dec.{ltb}
 use lib.ListN.{length}
@@ -16,8 +17,8 @@ use Rattle.pieces.specs.Pieces.{pieces}
 use Rattle.pairs.specs.Books.{bookOf}
 use Rattle.pairs.specs.Slots.{leftSlot, rightSlot, choices, newFrom}
 use Rattle.pairs.specs.Turns.{slotFits, leftFrom, rightFrom}
-use Rattle.shares.proofs.ShareLaws.{marks-some, below-next}
-use Rattle.walk.specs.News.{news, renews}
+use Rattle.shares.proofs.ShareLaws.{nothing-bit, marks-some, below-next}
+use Rattle.walk.specs.News.{news, renews, PassedOver}
 use Rattle.walk.specs.Walks.{RoundBegins, Noted, Walked}
 use Rattle.walk.specs.declared.Round.{Round}
 use Rattle.walk.specs.declared.Walk.the-variants.{Went}
@@ -34,6 +35,20 @@ module _ {lore rules t₀ : List ℕ} {round : Round} {fresh : ℕ} {p : Place} 
 
   abbrev NotedHere : ℕ → Outcome Piece → Type 0
   NotedHere x o = Noted lore rules (p .found .notes) (tallyBook (p .table) (p .found)) x o
+
+  -- rules that are walked for no nonterminal have no pairings, and are passed over
+  pub rules-passed : {shares : List ℕ} → LentParts lore rules shares → (i : ℕ) → PassedOver shares (p .i) i
+      → Going lore rules round fresh t₀ (place i 0 0 (p .table) (p .found))
+  rules-passed {shares = shares} lent i over = onward going i 0 0 (λ a b c x o m h. at a b c x o m h (decLt a (p .i)))
+    where
+      at : (a b c x : ℕ) (o : Outcome Piece) → Met a b c x o → Before i 0 0 a b c → Dec (a < p .i)
+          → Before (p .i) (p .j) (p .k) a b c ⊎ NotedHere x o
+      at a b c x o m h (yes l) = inl (inl l)
+      at a b c x o m (inl h) (no l) =
+          let marked = pairing-marked (lent .in-range) (lent .all-shares .each a (m .is-rule)) m .1 in
+          absurd (nothing-bit x (rw (over .unmarked a (omega arith) h) at marked))
+      at a b c x o m (inr (q, inl h)) (no l) = absurd (omega arith)
+      at a b c x o m (inr (q, inr (d, h))) (no l) = absurd (omega arith)
 
   module _ {shares : List ℕ} (lent : LentParts lore rules shares) where
     -- a pairing of two old choices met no event

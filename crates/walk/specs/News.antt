@@ -1,8 +1,10 @@
--- Which nonterminals have a new row, and whether a slot has a new choice: in the first round each has, later only one whose nonterminal has
--- a row that the round before found.
+-- What a round passes over. A slot has a new choice in the first round, and later only where its nonterminal has a row that the round before
+-- found; a rule that is walked for no nonterminal has none.
+use mathlib.Core.Path.{_≡_}
 use mathlib.Core.Bool.{Bool, true, false, _||_}
 use mathlib.Core.List.{List}
-use Prim.Native.Nat.{ℕ, zero, suc, _+_, _-_, _%_}
+use Prim.Native.Nat.{ℕ, zero, suc, _+_, _-_, _%_, _≤_, _<_}
+use lib.ListN.{getD}
 use Rattle.numbers.specs.Bits.{bit}
 use Rattle.useful.specs.Marks.{withMark}
 use Rattle.worktable.specs.Packed.{nonterminalIn}
@@ -22,3 +24,8 @@ unfoldable pub renews : Slot → ℕ → Bool → Bool
 renews Absent fresh first = first
 renews (Single closes a) fresh first = first
 renews (Rows x) fresh first = first || bit fresh (x % 64)
+
+-- the rules from the i-th up to the r-th are walked for no nonterminal
+pub record PassedOver (shares : List ℕ) (i r : ℕ) : Type 0 where
+  pub forward : i ≤ r
+  pub unmarked : (a : ℕ) → i ≤ a → a < r → getD shares a 0 ≡ 0

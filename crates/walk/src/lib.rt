@@ -15,7 +15,7 @@ ghost use Rattle.pairs.specs.Books.{bookOf};
 ghost use Rattle.pairs.specs.Slots.{leftSlot, rightSlot, choices, newFrom};
 ghost use Rattle.pairs.specs.Turns.{slotFits, leftsOf, leftFrom, rightFrom, Choosable};
 ghost use Rattle.shares.specs.Shares.{Shares};
-ghost use Rattle.walk.specs.News.{news, renews};
+ghost use Rattle.walk.specs.News.{news, renews, PassedOver};
 ghost use Rattle.walk.specs.Walks.{ProperRows, RoundBegins, Walked};
 
 // Where a round begins: so many rows were there two rounds ago, so many are there now, and whether it is the first round.
@@ -152,6 +152,21 @@ fn lefts_of(walked: bool, left: pairs::Slot, n: usize) -> usize
     0
 }
 
+// The first rule from the i-th on that is walked for some nonterminal, or the n-th: any other costs one look.
+fn next_walked(shares: &[u64; template::RULES], i: usize, n: usize) -> usize
+    requires { ⌜ (i ≤ n) × (n ≤ mostRules) ⌝ }
+    ensures { λ r. ⌜ PassedOver (now (shares .entry)) i r × (r ≤ n) ⌝ }
+{
+    let mut k = i;
+    while k < n {
+        if 0 < shares[k] {
+            return k;
+        }
+        k += 1;
+    }
+    k
+}
+
 // The walk of one round.
 pub fn walk_round(
     rules: &[u8],
@@ -210,7 +225,7 @@ pub fn walk_round(
                 }
                 j += 1;
             }
-            i += 1;
+            i = next_walked(shares, i + 1, rules.len() / 4);
         }
         break 'walk Walk::Went(found);
     };

@@ -4,13 +4,14 @@ use mathlib.Core.Path.{_≡_, refl, _∙_}
 use mathlib.Core.Bool.{Bool}
 use mathlib.Core.List.{List}
 use Prim.Native.Nat.{ℕ, _-_, _/_}
+use native.Mathlib.Omega.{arith}
 use denote.Ref.{now}
 use lib.ListN.{length, getD}
 use borrow.Author.Needs.{needs}
 use Rattle.walk.specs.declared.Round.{Round}
 use Rattle.walk.proofs.ProgressLaws.{no-notes}
 use Rattle.walk.proofs.PlaceLaws.{LentParts, RuleParts, AtRule, Place, place, Going}
-use Rattle.walk.proofs.VisitLaws.{left-start, right-start, right-end, left-end, walk-end}
+use Rattle.walk.proofs.VisitLaws.{left-start, right-start, right-end, left-end, rules-passed, walk-end}
 use Rattle.walk.proofs.RoundLaws.{Leads, going-begun, news-room, left-choosable, right-choosable, turn-kept, turn-stops}
 use Rattle.walk.proofs.walk_round.Statement.{statement}
 use Rattle.walk.proofs.walk_round.Tie as tie
@@ -271,19 +272,24 @@ loop2-again c =
       goes = λ t g. right-end (inward p t (l .loop2 .inv .goes t g)) (lent (start (to-rules l))) (rule l) (c .loop3-test .left);
     }
 
-add-i : tie.Need-add-i Inv-loop3 μ-loop3 Inv-loop2 μ-loop2 Inv-loop μ-loop Inv-walk μ-walk
-add-i c = search needs
+add-next-walked : tie.Need-add-next-walked Inv-loop3 μ-loop3 Inv-loop2 μ-loop2 Inv-loop μ-loop Inv-walk μ-walk
+add-next-walked c = search needs
+
+next-walked-requires : tie.Need-next-walked-requires Inv-loop3 μ-loop3 Inv-loop2 μ-loop2 Inv-loop μ-loop Inv-walk μ-walk
+next-walked-requires c κs = (omega (arith, rule (c .before) .is-rule), start (to-rules (c .before)) .pre .1 .1 .1 .0)
 
 loop-less : tie.Need-loop-less Inv-loop3 μ-loop3 Inv-loop2 μ-loop2 Inv-loop μ-loop Inv-walk μ-walk
-loop-less c = search needs
+loop-less c = omega (arith, c .next-walked .ensures .0 .forward, c .next-walked .ensures .1)
 
 loop-again : tie.Need-loop-again Inv-loop3 μ-loop3 Inv-loop2 μ-loop2 Inv-loop μ-loop Inv-walk μ-walk
 loop-again c =
-    let l = c .before in
+    let l = c .before .before in
     let r = to-rules l in
     record {
       same-length = l .loop2 .inv .same-length ∙ r .loop .inv .same-length;
-      goes = λ t g. left-end (onto-rule l t (r .loop .inv .goes t g)) (lent (start r)) (rule l) (c .loop2-test .left) refl;
+      goes = λ t g.
+          rules-passed (left-end (onto-rule l t (r .loop .inv .goes t g)) (lent (start r)) (rule l) (c .before .loop2-test .left) refl)
+          (lent (start r)) _ (c .next-walked .ensures .0);
     }
 
 same-length : tie.Need-same-length Inv-loop3 μ-loop3 Inv-loop2 μ-loop2 Inv-loop μ-loop Inv-walk μ-walk
@@ -343,7 +349,8 @@ walk-round-spec =
     add-j
     loop2-less
     loop2-again
-    add-i
+    add-next-walked
+    next-walked-requires
     loop-less
     loop-again
     same-length
