@@ -94,9 +94,17 @@ module _ (rules : List ℕ) where
     pub sharing-useless : (r : Bool) → (r ≡ true) ↔ UsefulRule rules i → not r ≡ true → Sharing rules i 0
     sharing-useless r test off = sharing-none (λ (u, _). false≢true (sym (not-true r off) ∙ test .1 u))
 
-    module _ (h marks : ℕ) (so-far : Gathered h marks) (s u : Bool) (same : (s ≡ true) ↔ SameRight rules h i)
-        (is-useful : (u ≡ true) ↔ UsefulRule rules h) where
-      pub gathered-other : (s && u) ≡ false → Gathered (h + 1) marks
+    -- the two tests of a sharer
+    module _ (h : ℕ) (s : Bool) (same : (s ≡ true) ↔ SameRight rules h i) where
+      pub sharer-differs : not s ≡ true → (false ≡ true) ↔ (UsefulRule rules h × SameRight rules h i)
+      sharer-differs off = (λ e. absurd (false≢true e), λ (_, w). absurd (false≢true (sym (not-true s off) ∙ same .1 w)))
+
+      pub sharer-told : (u : Bool) → (u ≡ true) ↔ UsefulRule rules h → not s ≡ false
+          → (u ≡ true) ↔ (UsefulRule rules h × SameRight rules h i)
+      sharer-told u is-useful on = (λ e. (is-useful .0 e, same .0 (not-false s on)), λ (v, _). is-useful .1 v)
+
+    module _ (h marks : ℕ) (so-far : Gathered h marks) (t : Bool) (test : (t ≡ true) ↔ (UsefulRule rules h × SameRight rules h i)) where
+      pub gathered-other : t ≡ false → Gathered (h + 1) marks
       gathered-other off =
           record {
             members = λ x l. (
@@ -111,12 +119,12 @@ module _ (rules : List ℕ) where
           }
         where
           not-both : UsefulRule rules h → SameRight rules h i → ⊥
-          not-both v w = false≢true (sym off ∙ rw (same .1 w, is-useful .1 v))
+          not-both v w = false≢true (sym off ∙ test .1 (v, w))
 
-      pub gathered-more : (v left next : ℕ) → (s && u) ≡ true → i ≤ h → v ≡ left → left ≡ field rules h 0 → v < 64
+      pub gathered-more : (v left next : ℕ) → t ≡ true → i ≤ h → v ≡ left → left ≡ field rules h 0 → v < 64
           → next ≡ withMark marks v → Gathered (h + 1) next
       gathered-more v left next on late wide is small w =
-          let (s-on, u-on) = and-out s on in
+          let (is-useful, same) = test .0 on in
           let e = wide ∙ is in
           record {
             members = λ x l. (
@@ -124,7 +132,7 @@ module _ (rules : List ℕ) where
                   (λ m. let (g, k, e, u, s) = so-far .members x l .0 m in (g, omega arith, e, u, s))
                   (λ q.
                   let d = eqb-true x v q in
-                  (h, omega arith, sym (d ∙ e), is-useful .0 u-on, same .0 s-on))
+                  (h, omega arith, sym (d ∙ e), is-useful, same))
                   (or-out (bit marks x) (rw (w, mark-bit marks v x) at b)),
               λ (g, k, e′, u, s). rw (w, mark-bit marks v x)
                   (⊎-elim
@@ -139,10 +147,8 @@ module _ (rules : List ℕ) where
           }
 
       -- a useful rule before rule i has its right side
-      pub gathered-stop : (s && u) ≡ true → h < i → Sharing rules i 0
-      gathered-stop on l =
-          let (s-on, u-on) = and-out s on in
-          sharing-none (λ (_, first). first h l (is-useful .0 u-on) (same .0 s-on))
+      pub gathered-stop : t ≡ true → h < i → Sharing rules i 0
+      gathered-stop on l = let (is-useful, same) = test .0 on in sharing-none (λ (_, first). first h l is-useful same)
 
     pub gathered-end : (r : Bool) (h marks : ℕ) → (r ≡ true) ↔ UsefulRule rules i → not r ≡ false → Gathered h marks → length rules / 4 ≤ h
         → h ≤ length rules / 4 → i < length rules / 4 → Sharing rules i marks
@@ -189,6 +195,8 @@ pub ruleset sharing = (
   useful-told,
   gathered-none,
   sharing-useless,
+  sharer-differs,
+  sharer-told,
   gathered-other,
   gathered-more,
   gathered-stop,

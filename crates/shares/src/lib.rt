@@ -49,6 +49,20 @@ fn useful_rule(rules: &[u8], productive: u64, useful: u64, i: usize) -> bool
         & useful::all_marked(rules, i, productive)
 }
 
+// Is rule h useful, with the right side of rule i? Most rules have another one, which three bytes tell.
+fn is_sharer(rules: &[u8], productive: u64, useful: u64, h: usize, i: usize) -> bool
+    requires { ⌜ RulesInRange (now rules) ⌝ }
+    requires { ⌜ MarksAll productive (Productive (Gives (now rules))) ⌝ }
+    requires { ⌜ MarksAll useful (Useful (Gives (now rules))) ⌝ }
+    requires { ⌜ (h < length (now rules) / 4) × (i < length (now rules) / 4) ⌝ }
+    ensures { λ r. ⌜ (r ≡ true) ↔ (UsefulRule (now (rules .entry)) h × SameRight (now (rules .entry)) h i) ⌝ }
+{
+    if !same_right(rules, h, i) {
+        return false;
+    }
+    useful_rule(rules, productive, useful, h)
+}
+
 // The useful nonterminals for which rule i is walked: the left sides of all rules with its right side, where it is the first useful
 // one of them.
 fn sharers(rules: &[u8], productive: u64, useful: u64, i: usize) -> u64
@@ -64,7 +78,7 @@ fn sharers(rules: &[u8], productive: u64, useful: u64, i: usize) -> u64
     let mut marks = 0u64;
     let mut h = 0;
     while h < rules.len() / 4 {
-        if same_right(rules, h, i) & useful_rule(rules, productive, useful, h) {
+        if is_sharer(rules, productive, useful, h, i) {
             if h < i {
                 return 0;
             }

@@ -22,11 +22,8 @@ returns c = search sharing
 loop-holds : tie.Need-loop-holds Inv-loop μ-loop
 loop-holds c = search sharing
 
-same-right-requires : tie.Need-same-right-requires Inv-loop μ-loop
-same-right-requires c κs = search sharing
-
-useful-rule-requires-2 : tie.Need-useful-rule-requires-2 Inv-loop μ-loop
-useful-rule-requires-2 c κs = search sharing
+is-sharer-requires : tie.Need-is-sharer-requires Inv-loop μ-loop
+is-sharer-requires c κs = search sharing
 
 returns-2 : tie.Need-returns-2 Inv-loop μ-loop
 returns-2 c = search sharing
@@ -53,8 +50,7 @@ loop-again c =
     rw e (
       search needs,
       let u = c .before in
-          let w = u .before in
-          gathered-more _ _ _ _ (w .before .before .loop .inv .1) _ _ (w .same-right .ensures) (u .useful-rule2 .ensures) _ _ _ (both .taken)
+          gathered-more _ _ _ _ (u .before .before .loop .inv .1) _ (u .is-sharer .ensures) _ _ _ (both .taken)
           (late .left) (wide .ensures .0) (left .ensures) (search (left-wide, needs)) (with .ensures),
     )) (λ (other, e). rw e (search sharing)) (c .if2 .came)
 
@@ -70,8 +66,7 @@ sharers-spec =
     useful-rule-requires
     returns
     loop-holds
-    same-right-requires
-    useful-rule-requires-2
+    is-sharer-requires
     returns-2
     left-side-requires
     wide-requires
