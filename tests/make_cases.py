@@ -1,7 +1,7 @@
 #!/usr/bin/env python3
 """Writes the cases that the program `cases` runs (crates/cases/stdin) and the lines that it must print (crates/cases/stdout).
 
-Each case states its expected line by hand, from docs/RULES.md; nothing here computes an answer. Run it at the repository's root
+Each case states its expected line by hand, from the rules; nothing here computes an answer. Run it at the repository's root
 after a change of a case, and look at the difference."""
 import os
 

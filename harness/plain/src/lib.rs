@@ -1,4 +1,4 @@
-//! The rules (docs/RULES.md) in plain Rust, written from them alone.
+//! The product's rules in plain Rust, written from the rules alone; docs/RULES.md has them.
 //!
 //! The five calls behave exactly as the library's C boundary does. `oracle` holds a second, slow
 //! reading of the same rules, straight from their definitions, for the properties.
