@@ -1,7 +1,7 @@
 #!/usr/bin/env python3
 """Writes the cases that the program `cases` runs (crates/cases/stdin) and the lines that it must print (crates/cases/stdout).
 
-Each case states its expected line by hand, from document 01; nothing here computes an answer. Run it at the repository's root
+Each case states its expected line by hand, from the rules; nothing here computes an answer. Run it at the repository's root
 after a change of a case, and look at the difference."""
 import os
 
@@ -15,7 +15,7 @@ def half(n):
 
 
 def file(names=2, nonterminals=3, states=2, templates=(), schema=(), endings=()):
-    """A file laid out as document 01 says, of these entries, whatever they hold."""
+    """A file laid out by section 4 of the rules, of these entries, whatever they hold."""
     t, s, e = len(templates), len(schema), len(endings)
     head = bytes((names, nonterminals, states, 0))
     head += half(16) + half(t) + half(16 + 4 * t) + half(s) + half(16 + 4 * t + 4 * s) + half(e)
@@ -164,7 +164,7 @@ def net(s, depth, answer=0, number=0):
 
 def pages():
     sound(K, 2, 3, 2, 3, 4, 1)
-    # the cases of document 01
+    # the cases of the rules, section 7
     page([1, 33], 0)
     page([], 14)
     page([0, 1, 33, 32], 0)
@@ -305,7 +305,7 @@ def like_k(*rules, nonterminals=3):
 
 
 def doubling(steps):
-    """One element, one ending state, rule 0, 0, 0, 0; so many nonterminals doubling start a, as many doubling end a, the start their pair."""
+    """One name and one state, which ends; so many nonterminals double the start tag, as many the end tag, and the start is both in a row."""
     rules = [(1, 1, 0, 255), (steps + 1, 1, 32, 255), (0, 2, 64 + steps, 64 + 2 * steps)]
     for i in list(range(2, steps + 1)) + list(range(steps + 2, 2 * steps + 1)):
         rules.append((i, 2, 63 + i, 63 + i))
@@ -313,7 +313,7 @@ def doubling(steps):
 
 
 def chain(*last):
-    """64 nonterminals, each giving the next; the last gives one of these. Q 5, all ending, rules 0, i, 0, i+1."""
+    """A chain of 64 nonterminals that ends in one of these; five states, all ending, and a rule from state 0 to each other."""
     rules = [(i, 1, 65 + i, 255) for i in range(63)] + [(63,) + r for r in last]
     return file(4, 64, 5, sorted(rules), [(0, i, 0, i + 1) for i in range(4)], range(5))
 
@@ -350,7 +350,7 @@ def checks():
     check(64, 6, 0)
     sound(like_k(), 2, 3, 2, 0, 4, 1)
     check(64, 6, 0)
-    # document 01's cases
+    # the cases of the rules, section 11
     sound(like_k(*KT, (2, 0, 255, 255)), 2, 3, 2, 4, 4, 1)
     check(64, 2, 3)
     check(2, 5, 2)

@@ -1,5 +1,5 @@
--- The two tests at a page's end, on its reduced form: that no tag is left, and that state 0 accepts what it is. Document 01: "A page is a
--- fragment with two tests at its end."
+-- The two tests at a page's end, on its reduced form: that no tag is left, and that state 0 accepts what it is. Rules, section 7: until
+-- then a page is read as a fragment.
 use mathlib.Core.Bool.{cond}
 use mathlib.Core.List.{List}
 use lib.Dec.{ltb}

@@ -1,4 +1,4 @@
--- A reduced form held in two arrays. Document 01, "Reduced forms": a summary is at most 16 tags and one relation more than tags; the tags
+-- A reduced form held in two arrays. Rules, section 6: up to 16 tags, and always one relation more than there are tags; the tags
 -- stand in the string's order, ends and then starts, and piece k stands before tag k.
 use mathlib.Core.Path.{_≡_}
 use mathlib.Core.Bool.{Bool, true, false}
@@ -42,7 +42,7 @@ formOf s = stackOf (s .counts .ends) (s .names) (s .values) (tagCount (s .counts
 abbrev pub lastOf : Summary → Piece
 lastOf s = pieceAt (s .values) (tagCount (s .counts))
 
--- "an unused place" is 0: behind n tags and n + 1 pieces
+-- what is not used is 0: the places behind n tags and n + 1 pieces
 pub record Unused (n : ℕ) (names values : List ℕ) : Type 0 where
   pub names-zero : (k : ℕ) → n ≤ k → getD names k 0 ≡ 0
   pub values-zero : (k : ℕ) → n < k → pieceAt values k ≡ zeroPiece

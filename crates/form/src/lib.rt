@@ -204,8 +204,8 @@ fn turn(
     Step::Kept(d)
 }
 
-// A whole form more, whose tags and pieces stand in arrays of its own: the innermost start of the left meets the first end of the right,
-// and so outward.
+// A whole form more, whose tags and pieces stand in arrays of its own. Its first end meets the start that was opened last, its next end
+// the one before that, from the seam outward (Rules, section 7).
 pub fn then_form(
     lore: &[u64; lore::LORE],
     names: &mut [u8; pieces::TAGS],

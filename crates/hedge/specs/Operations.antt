@@ -1,6 +1,6 @@
--- The binoid of relations. Document 01, "Reduced forms": "The empty string has each (X, X), X below Q. Strings in a row compose their
--- relations. For start a, w, end a: (X, Z) is in it when a rule X, a, Y, Z exists and w's relation has (Y, W) with W ending. These are
--- the source's binoid operations." Each is a test on pairs first, and then the number of the pairs that pass. K is the width of a row.
+-- The binoid of relations, the source's operations. Rules, section 5: the empty word leads each state below Q to itself; two words lead
+-- from X to Z through some state between; an element leads from X to Z by a rule X, a, Y, Z if its inner word leads Y to some ending
+-- state. Each is a test on pairs first, and then the number of the pairs that pass. K is the width of a row.
 use mathlib.Core.Bool.{Bool, _&&_}
 use mathlib.Core.List.{List}
 use Prim.Native.Nat.{ℕ, _*_, _/_, _%_}

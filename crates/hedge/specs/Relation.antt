@@ -1,5 +1,5 @@
--- The relation of a word as a number. Document 01, "Reduced forms": "The relation of a balanced string w is the set of state pairs
--- (X, Z) such that X derives w followed by Z. It is a 64-bit number: bit 8·X+Z." The width of a row, 8 there, is K here.
+-- The relation of a word as a number. Rules, section 5: it has the pair (X, Z) where X derives the word with Z left to go on, and keeps
+-- that pair as its bit 8·X+Z. The width of a row, 8 there, is K here.
 use mathlib.Core.Path.{_≡_}
 use mathlib.Core.Bool.{Bool, true}
 use mathlib.Core.List.{List}
@@ -18,7 +18,7 @@ pub record RelationOf (K : ℕ) (S : Schema) (w : List Tag) (r : ℕ) : Type 0 w
   pub small : r < 2 ^ (K * K)
   pub members : (x z : ℕ) → x < K → z < K → (has K r x z ≡ true) ↔ Leads S x w z
 
--- no bit past the width, and "a relation bit outside Q" is not there
+-- no bit past the width, and none of a pair with a state not below q
 pub record Within (K q r : ℕ) : Type 0 where
   pub small : r < 2 ^ (K * K)
   pub states : (x z : ℕ) → x < K → z < K → has K r x z ≡ true → (x < q) × (z < q)

@@ -1,6 +1,6 @@
--- Schemas and what they derive. Document 01, "Tags, templates, schema": "A schema is a regular hedge grammar in the source's second
--- form, with Q states. State 0 is its start. A rule X, a, Y, Z reads: X gives start a, Y, end a, Z. An ending state gives the empty
--- string. A page is valid when it is balanced and state 0 derives it."
+-- Schemas and what they derive: the source's regular hedge grammars, in their second form. Rules, section 3: an ending state derives the
+-- empty word; by a rule X, a, Y, Z the state X derives an element a around what Y derives, and behind it what Z derives. State 0 is the
+-- start, and says what is valid.
 use mathlib.Core.Path.{_≡_}
 use mathlib.Core.List.{List, [], _∷_, _++_}
 use Prim.Native.Nat.{ℕ, _/_, _<_}
@@ -31,7 +31,7 @@ pub data Leads (S : Schema) : ℕ → List Tag → ℕ → Type 0 where
   leads-rule : {x a y z t : ℕ} {u v : List Tag} → S .Rule x a y z → Derives S y u → Leads S z v t
       → Leads S x (start a ∷ (u ++ (end a ∷ v))) t
 
--- "A page is valid when it is balanced and state 0 derives it."
+-- valid: balanced, and derived by the schema's start
 abbrev pub Valid : Schema → List Tag → Type 0
 Valid S w = Balanced w × Derives S 0 w
 

@@ -1,6 +1,6 @@
 -- A schema taught into one list of numbers, its lore: entry 0 the number of states, 1 the ending states as bits, 2 the relation of the
 -- empty word; from entry 8 on, for each name a and inner state y, the relation of all (x, z) with a rule x, a, y, z. The operations of
--- document 01's "Reduced forms" are then read off it, and no rule is looked at again. K is the width of a row.
+-- relations (Rules, section 5) are then read off it, and no rule is looked at again. K is the width of a row.
 use mathlib.Core.Path.{_≡_}
 use mathlib.Core.Bool.{Bool, _&&_, cond}
 use mathlib.Core.List.{List}

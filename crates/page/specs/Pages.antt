@@ -1,6 +1,6 @@
--- What a page's reply must be. Document 01: "A page is a fragment with two tests at its end"; "For a page or fragment: 7, then the earliest
--- place with 10, 11 or 12, then for a page 13, 14": 13, page ends with tags unmatched; 14, balanced, not derived. "A page is valid when it
--- is balanced and state 0 derives it."
+-- What a page's reply must be. Rules, sections 7 and 9: 7 for a bad file; 10, 11 or 12 where the reading ends, as for a fragment; then the
+-- two tests of a whole page: 13 where some tags have no partner, 14 where all have but state 0 does not derive it. Else it is valid, in the
+-- sense of section 3.
 use mathlib.Core.Path.{_≡_}
 use mathlib.Core.List.{List}
 use Prim.Native.Nat.{ℕ}
@@ -39,7 +39,7 @@ replyOf ending.Page = Valid
 replyOf ending.Unmatched = Unmatched
 replyOf ending.NotDerived = NotDerived
 
--- the reply in document 01's numbers
+-- the reply in numbers (Rules, section 9)
 abbrev pub answer : PageReply → ℕ
 answer Valid = 0
 answer (BadFile p) = 7

@@ -1,4 +1,4 @@
-// The page reader: a fragment with two tests at its end. Any file and any bytes may be lent.
+// The page reader: reads a fragment, and then puts it to the two tests of a whole page. Any file and any bytes may be lent.
 ghost use mathlib.Core.Path.{_≡_};
 ghost use Rattle.template.specs.Order.{reading};
 ghost use Rattle.template.specs.declared.Reading.the-variants.{Sound};
@@ -58,7 +58,7 @@ fn read_under(file: &[u8], shape: template::Shape, bytes: &[u8]) -> PageReply
     }
 }
 
-// Reads a page: 7, then the earliest place with 10, 11 or 12, then 13, then 14; else it is valid.
+// Reads a page: 7; 10, 11 or 12 where the reading ends; 13; 14; else it is valid (Rules, section 9).
 pub fn read(file: &[u8], bytes: &[u8]) -> PageReply
     ensures { λ r. ⌜ PageSays (now (file .entry)) (now (bytes .entry)) r ⌝ }
 {
@@ -69,7 +69,7 @@ pub fn read(file: &[u8], bytes: &[u8]) -> PageReply
     }
 }
 
-// The reply in document 01's numbers.
+// The reply in numbers (Rules, section 9).
 pub fn answer(r: PageReply) -> u32
     ensures { λ n. ⌜ n ≡ answer r ⌝ }
 {

@@ -1,5 +1,5 @@
--- The two places of a rule's right side, and the forms that each can take from the rows of a book. Document 01: "A template rule is 4
--- bytes: left side, length, two symbols"; an image of a nonterminal is a row of it.
+-- The two places of a rule's right side, and the forms that each can take from the rows of a book. Rules, section 4: behind a rule's left
+-- side and length stand two symbols; an image of a nonterminal is a row of it.
 use mathlib.Core.Path.{_≡_}
 use mathlib.Core.Bool.{Bool, true, false, cond}
 use mathlib.Core.List.{List}

@@ -1,4 +1,4 @@
--- The value of a piece: what a reduced form has before, between and after its tags. Document 01, "Reduced forms": there it is a relation.
+-- The value of a piece: what a reduced form has before, between and after its tags. Rules, section 6: it is a relation.
 -- A form's pieces stand in one flat list of numbers, and only this file and its laws know how.
 use mathlib.Core.Bool.{Bool}
 use mathlib.Core.List.{List}

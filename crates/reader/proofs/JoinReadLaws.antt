@@ -1,5 +1,5 @@
--- Two runs of bytes in one go against the join of their forms (specs/Reads.antt). Document 01, "Readings that look right": "Reading u
--- and v as one must equal joining them: ten 0 before ten 0 and twenty 32 joins to no tags, but in one go gives 12 at place 16." The two
+-- Two runs of bytes in one go against the join of their forms (specs/Reads.antt). Rules, section 7: of ten starts, and ten starts with
+-- twenty ends, the forms join to one without tags, while reading all of it as one run is refused at the seventeenth start. The two
 -- in a row spell the two words in a row, whose form the join gives. So what one go finds is the join's form, or a mismatch that the join
 -- meets too, or too many tags on the way, and only there can they differ (DeepLaws.antt: they do). A refusal is never before the second
 -- run, since the first is readable. Assumes nothing.

@@ -1,6 +1,6 @@
--- What reading a run of bytes finds, over A names, any binoid and at most n tags. Document 01, "Answer numbers": "the earliest place with
--- 10, 11 or 12": 10, not a tag below A; 11, mismatch; 12, more than n tags in the reduced form; each judged after a tag on what was read
--- so far. Where no beginning is refused, the reduced form is the source's.
+-- What reading a run of bytes finds, over A names, any binoid and at most n tags. Rules, sections 7 and 9: reading ends at the first byte
+-- that is no tag (10), makes a mismatch (11) or leaves more than n tags (12); each is judged after a tag, on the reduced form of what was
+-- read so far. Where no beginning is refused, the reduced form is the source's.
 use mathlib.Core.Path.{_≡_}
 use mathlib.Core.List.{List, [], _∷_, _++_}
 use Prim.Native.Nat.{ℕ, _≤_, _<_}
@@ -48,7 +48,7 @@ module _ (A : ℕ) (B : Binoid) (n : ℕ) where
   abbrev pub AllReadable : List ℕ → Type 0
   AllReadable bytes = (x y : List ℕ) → bytes ≡ x ++ y → Readable x
 
-  -- "the earliest place"
+  -- the whole run, or the first byte with which it is not readable
   pub data Reads : List ℕ → Found (B .H) → Type 0 where
     reads-all : {bytes : List ℕ} {s : Stack (B .H)} {c : B .H} → AllReadable bytes → Form bytes s c → Reads bytes (whole s c)
     reads-to : (before : List ℕ) (b : ℕ) (after : List ℕ) {why : Reason} → AllReadable before → Refused (before ++ (b ∷ [])) why

@@ -1,4 +1,4 @@
--- The check's reply in document 01's numbers ("Answer numbers"): the answer, the number returned, the images.
+-- The check's reply in numbers (Rules, section 9): the answer, its further number, the images.
 use Prim.Native.Nat.{ℕ}
 use Rattle.rounds.specs.declared.CheckReply.{CheckReply}
 use Rattle.rounds.specs.declared.CheckReply.the-variants.{Passed, Mismatch, Invalid, TooDeep, Crowded, OutOfRounds}
@@ -28,7 +28,7 @@ number (BadFile p) = p
 number BadBudget = 0
 number ShortTable = 0
 
--- "The image count is 0 except with answer 0."
+-- images are counted for a pass only
 abbrev pub images : CheckReply → ℕ
 images (Passed r n) = n
 images (Mismatch r) = 0

@@ -1,4 +1,4 @@
--- The event that a round's walk met. Document 01, "Rounds and heights": "The first round with an event decides, and in it the lowest number."
+-- The event that a round's walk met. Rules, section 8: of several events in one round the one with the lowest number counts.
 use mathlib.Core.Path.{_≡_}
 use mathlib.Core.Bool.{true, false}
 use Prim.Native.Nat.{ℕ}

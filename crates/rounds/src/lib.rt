@@ -1,4 +1,4 @@
-// The check of a whole template set: useful nonterminals, then rounds of the walk against a budget, over the one lent worktable.
+// The check of a template set: useful nonterminals, then rounds of the walk against a budget, over the one lent worktable.
 ghost use mathlib.Core.Path.{_≡_};
 ghost use Prim.Native.Nat.{_≤_};
 ghost use lib.ListN.{length};
@@ -144,7 +144,7 @@ fn check_sound(file: &[u8], shape: template::Shape, table: &mut [u64], budget: u
     rounds(file, shape, &lore, &shares, table, budget)
 }
 
-// Checks a template set: 9, 8, 7, 6, then rounds.
+// Checks a template set: the refusals 9, 8, 7 and 6 in this order, and only then the rounds (Rules, section 9).
 pub fn check(file: &[u8], table: &mut [u64], budget: usize) -> CheckReply
     ensures { λ r. ⌜ CheckSays (now (file .entry)) (now (table .entry)) budget r (now (table .exit)) ⌝ }
 {
@@ -164,7 +164,7 @@ pub fn check(file: &[u8], table: &mut [u64], budget: usize) -> CheckReply
     }
 }
 
-// The reply in document 01's numbers.
+// The reply in numbers (Rules, section 9).
 pub fn answer(r: CheckReply) -> u32
     ensures { λ n. ⌜ n ≡ answer r ⌝ }
 {

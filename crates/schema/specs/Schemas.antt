@@ -1,5 +1,5 @@
--- The schema that a file holds, the binoid of its pieces, and the lore that is taught from it. Document 01, "Tags, templates, schema" and
--- "Reduced forms".
+-- The schema that a file holds, the binoid of its pieces, and the lore that is taught from it. Rules, sections 3 (schemas),
+-- 4 (the file) and 5 (relations).
 use mathlib.Core.List.{List}
 use Prim.Native.Nat.{ℕ}
 use Rattle.words.specs.Binoid.{Binoid}

@@ -1,5 +1,5 @@
 -- Rules with the same right side. A pair of choices is joined once for all of them: where the first useful one of them stands, for the left
--- side of each. Document 01, "Template file": "A template rule is 4 bytes: left side, length, two symbols".
+-- side of each. Rules, section 4: a rule's right side is its length and its two symbols, the bytes behind its left side.
 use mathlib.Core.Path.{_≡_}
 use mathlib.Core.Bool.{true}
 use mathlib.Core.List.{List}

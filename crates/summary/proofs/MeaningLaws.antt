@@ -1,5 +1,5 @@
 -- What the summaries mean. The summary of a word under a file packs the word's reduced form; a fragment's summary is that of the word
--- that its bytes spell; and joining the summaries of two words gives the summary of the two in a row, or says exactly why there is none:
+-- that its bytes spell; and the summaries of two words join to that of the two in a row, or the join says exactly why there is none:
 -- the join of two forms is the form of the two words in a row (words/proofs/JoinLaws.antt), and a word has one form or is mismatched.
 -- Every summary that is made is a summary under the file. Assumes nothing.
 use mathlib.Core.Path.{_≡_, refl, subst}

@@ -1,4 +1,4 @@
--- The replies in document 01's numbers ("Answer numbers"): the answer, the number returned, the net depth.
+-- The replies in numbers (Rules, section 9): the answer, its further number, the net depth.
 use Prim.Native.Nat.{ℕ}
 use lib.IntN.{ℤ, pos}
 use Rattle.summary.specs.declared.FragmentAnswer.{FragmentAnswer}
@@ -46,7 +46,7 @@ depthNumber (depth.Net z) = 0
 depthNumber (depth.BadFile p) = p
 depthNumber depth.NoSummary = 0
 
--- "Any refusal's net depth is 0"
+-- a refusal has the net depth 0
 abbrev pub netDepth : DepthReply → ℤ
 netDepth (depth.Net z) = z
 netDepth (depth.BadFile p) = pos 0

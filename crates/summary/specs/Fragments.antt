@@ -1,5 +1,5 @@
--- What a fragment's reply must be. Document 01, "Answer numbers": "For a page or fragment: 7, then the earliest place with 10, 11 or 12";
--- "A fragment that is read without refusal gets exactly their reduced form" (the request); "Any refusal's summary is all zeros."
+-- What a fragment's reply must be. Rules, sections 7 and 9: 7 for a bad file; else 10, 11 or 12 where the reading ends; else the
+-- summary, which is the source's reduced form and nothing else (section 12). A refusal's summary is zeros throughout.
 use mathlib.Core.Path.{_≡_}
 use mathlib.Core.List.{List}
 use Prim.Native.Nat.{ℕ}

@@ -1,5 +1,5 @@
--- What the replies of a join and of a net depth must be. Document 01: "For a join or net depth: 7, 15; a join then 11, 12." "Two
--- well-formed summaries that no fragment has are joined by the same rules on their tags and relations." "Net depth is starts minus ends."
+-- What the replies of a join and of a net depth must be. Rules, sections 6, 7 and 9: both refuse with 7, then 15, and a join further with 11,
+-- then 12. Any two summaries under the file are joined by the same steps, whether or not some fragment has them.
 use mathlib.Core.Path.{_≡_}
 use mathlib.Core.List.{List}
 use Prim.Native.Nat.{ℕ, _≤_, _<_}

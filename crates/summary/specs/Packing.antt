@@ -1,6 +1,6 @@
--- Which structs are summaries, and the reduced form that one packs. Document 01, "Reduced forms": "That is its summary: at most 16 tags
--- and one relation more than tags. A summary with a tag name of A or more, more than 16 tags, a relation bit outside Q, or an unused
--- place that isn't 0 is no summary." "Any refusal's summary is all zeros."
+-- Which structs are summaries, and the reduced form that one packs. Rules, section 6: its tags are 16 or fewer, its names below A, its
+-- relations within the states below Q, and whatever place it does not use is 0; a struct that fails in any of these is no summary. That
+-- of a refusal has zeros only (section 9).
 use mathlib.Core.Path.{_≡_}
 use mathlib.Core.Bool.{Bool, true, _&&_, cond}
 use mathlib.Core.List.{List}

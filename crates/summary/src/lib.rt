@@ -1,5 +1,5 @@
 // Fragment summaries: read from a run of bytes, joined, and their net depth. Any file, any bytes and any struct may be lent: each call
-// looks at them first, in document 01's order.
+// looks at them first, in the order of refusals (Rules, section 9).
 ghost use mathlib.Core.Path.{_≡_};
 ghost use mathlib.Core.Bool.{true, cond};
 ghost use mathlib.Core.Logic.{_↔_};
@@ -100,7 +100,7 @@ pub fn summarise(lore: &[u64; lore::LORE], known: u8, bytes: &[u8]) -> FragmentR
     }
 }
 
-// The summary of a fragment: 7, then the earliest place with 10, 11 or 12; else the reduced form.
+// The summary of a fragment: 7; 10, 11 or 12 where the reading ends; else the reduced form.
 pub fn fragment(file: &[u8], bytes: &[u8]) -> FragmentReply
     ensures { λ r. ⌜ FragmentSays (now (file .entry)) (now (bytes .entry)) r ⌝ }
 {
@@ -228,7 +228,7 @@ fn join_summaries(
     }
 }
 
-// The summary of two fragments laid end to end, from their summaries: 7, 15, 11, 12; else the joined summary.
+// The summary of two fragments in a row, from their summaries: 7, 15, 11, 12; else the joined summary.
 pub fn join(file: &[u8], left: form::Summary, right: form::Summary) -> JoinReply
     ensures { λ r. ⌜ JoinSays (now (file .entry)) left right r ⌝ }
 {
@@ -272,7 +272,7 @@ pub fn net_depth(file: &[u8], s: form::Summary) -> DepthReply
     }
 }
 
-// The replies in document 01's numbers.
+// The replies in numbers (Rules, section 9).
 pub fn fragment_answer(a: FragmentAnswer) -> u32
     ensures { λ n. ⌜ n ≡ fragmentAnswer a ⌝ }
 {

@@ -1,6 +1,6 @@
 -- What the lists of a sound file name. Each field of an entry passes its test in the file, and stands in the list (`rules-field` and its
 -- two like): so the schema's states, its names and its ending states are below Q, A and Q. A template rule has its left side below N, at
--- most two symbols, and each is a tag of a name below A or a nonterminal below N: a byte that passes `isSymbol` stands for such a symbol,
+-- most two symbols, and each is a tag (its name below A) or a nonterminal (below N): a byte that passes `isSymbol` stands for such a symbol,
 -- by its three cases, and the two symbol bytes go by the rule's length. Assumes nothing.
 use mathlib.Core.Path.{_≡_}
 use mathlib.Core.Logic.{⊎-elim}

@@ -1,6 +1,6 @@
--- The template rules as a grammar. Document 01, "Tags, templates, schema": "A template set is a context-free grammar with N
--- nonterminals; byte 64+n stands for nonterminal n; 0 is the start. A rule has 0, 1 or 2 symbols on its right." "A template rule is 4
--- bytes: left side, length, two symbols." Right sides are lists of symbols of any length.
+-- The template rules as a context-free grammar, whose start is nonterminal 0. Rules, sections 2 and 4: a rule's first byte is its left
+-- side, its second says how many of the two symbol bytes count, and in these 64+n means nonterminal n. Right sides are lists of symbols
+-- of any length.
 use mathlib.Core.Path.{_≡_}
 use mathlib.Core.Bool.{cond}
 use mathlib.Core.List.{List, [], _∷_, map}

@@ -1,6 +1,6 @@
--- Where things stand in a template file. Document 01, "Template file: contents first, then the bodies": "0 to 3: A, N, Q, then 0. 4 to
--- 15: contents: for template rules, schema rules, ending states in this order, offset and count (16 bits each). 16 on: the three
--- bodies in that order, without gaps, the last ending at the file's end." "All 16-bit numbers are little-endian."
+-- Where things stand in a template file. Rules, section 4: three numbers and a 0; then for each of the three bodies where it begins and how
+-- many entries it has, both of 16 bits with the low byte first; from byte 16 on the bodies, each behind the one before it, up to the
+-- end of the file.
 use mathlib.Core.Bool.{Bool, true, false}
 use mathlib.Core.List.{List, []}
 use Prim.Native.Nat.{ℕ, _+_, _*_}
@@ -42,7 +42,7 @@ nonterminals f = byteAt f 1
 abbrev pub states : List ℕ → ℕ
 states f = byteAt f 2
 
--- how many template rules, schema rules, ending states
+-- how many entries each body has
 abbrev pub ruleCount : List ℕ → ℕ
 ruleCount f = halfAt f 6
 

@@ -1,6 +1,6 @@
--- The order of reading. Document 01, "Template file": "Order of reading: length below 16 (place 0); bytes 0 to 3; for each contents
--- entry offset, then count; total length (place 0); then each body's entries in turn, each field left to right, then the ascent (place:
--- the entry's first byte). The first fault decides. Otherwise the place is the first byte of the field at fault."
+-- The order of reading (Rules, section 4), as a list of tests, each with the place that is given where it fails: the head, the contents with
+-- each offset before its count, the file's length, then the bodies, entry by entry: an entry's fields, and that it is above the entry
+-- before it. The first test that fails decides.
 use mathlib.Core.Path.{_≡_}
 use mathlib.Core.Bool.{Bool, true, false, _&&_, _||_}
 use mathlib.Core.List.{List, [], _∷_, _++_}
@@ -28,7 +28,7 @@ pub record Test : Type 0 where
 abbrev pub test : Bool → ℕ → Test
 test b p = record { holds = b; place = p }
 
--- "The first fault decides."
+-- the first test that fails decides
 abbrev pub unless : Bool → Fault → Fault → Fault
 unless true f g = g
 unless false f g = f
@@ -55,7 +55,7 @@ headTests f =
     ∷ test (eqb (byteAt f 3) 0) 3
     ∷ []
 
--- offsets without gaps; counts at most 256, 128 and Q; total length
+-- each body begins where the one before it ends, its count is within its limit, and the last ends with the file
 unfoldable pub contentsTests : List ℕ → List Test
 contentsTests f =
     test (eqb (halfAt f 4) 16) 4
@@ -67,7 +67,7 @@ contentsTests f =
     ∷ test (eqb (length f) (bodiesEnd f)) 0
     ∷ []
 
--- "a used one is a tag of a name below A or a nonterminal below N, an unused one 255"
+-- a symbol that counts is a start tag, an end tag or a nonterminal of the file; one that does not is 255
 abbrev pub isSymbol : ℕ → ℕ → ℕ → Bool
 isSymbol A N b = ltb b A || ((leb 32 b && ltb b (32 + A)) || (leb 64 b && ltb b (64 + N)))
 
@@ -97,13 +97,13 @@ width Templates = 4
 width Schema = 4
 width Endings = 1
 
--- "compared byte by byte": the first byte that differs is smaller
+-- one entry precedes another: the first byte in which they differ is the smaller
 unfoldable pub precedes : List ℕ → List ℕ → Bool
 precedes [] ys = false
 precedes (x ∷ xs) [] = false
 precedes (x ∷ xs) (y ∷ ys) = ltb x y || (eqb x y && precedes xs ys)
 
--- "Entries of each body ascend strictly": the entry is the body's first, or the one before it precedes it
+-- an entry ascends: it is the body's first, or the one before it precedes it
 unfoldable pub ascends : ℕ → List ℕ → ℕ → ℕ → Bool
 ascends wide f first at = leb at first || precedes (take wide (drop (at - wide) f)) (take wide (drop at f))
 
@@ -127,7 +127,7 @@ bodies f =
 unfoldable pub tests : List ℕ → List Test
 tests f = headTests f ++ (contentsTests f ++ bodies f)
 
--- "sound when all hold"
+-- sound: every test holds
 abbrev pub IsSound : List ℕ → Type 0
 IsSound f = firstFault (tests f) ≡ Nowhere
 
@@ -151,7 +151,7 @@ verdict (At p) s = Bad p
 unfoldable pub reading : List ℕ → Reading
 reading f = verdict (firstFault (tests f)) (shapeOf f)
 
--- "7: bad file; number returned: place"
+-- the reading in numbers: a bad file is 7 with the place (Rules, section 9)
 abbrev pub answer : Reading → ℕ
 answer (Sound s) = 0
 answer (Bad p) = 7

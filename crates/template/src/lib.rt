@@ -122,7 +122,7 @@ fn contents_fault(file: &[u8]) -> Fault
     then_test(f, file.len() == end, 0)
 }
 
-// Is the byte a tag of a name below the number of names, or a nonterminal below theirs?
+// Is the byte a tag or a nonterminal of a file with that many names and nonterminals?
 fn is_symbol(names: u8, nonterminals: u8, byte: u8) -> bool
     ensures { λ r. ⌜ r ≡ isSymbol names nonterminals byte ⌝ }
 {

@@ -49,7 +49,7 @@ module _ (Rule : ℕ → List Symbol → Type 0) (B : Binoid) (Valid : List Tag 
             let w = i .string in
             absurd (none (record { string = w; under = i .under; invalid = λ p. v (valid-form w s c (i .reduced) .0 p) }))
 
-    -- after a round without event and without a new image, every string of the start is valid, and has few tags
+    -- after a round with neither an event nor a new image, every string of the start is valid, and has few tags
     pub pass-valid : (r : ℕ) → 1 ≤ r → Quiet (Event Rule B Valid most cap) (New Rule B Valid most cap) r
         → ((p : Pair (B .H)) → Image Rule B Valid most cap r p → Image Rule B Valid most cap (pred r) p)
         → {w : List Tag} {n : ℕ} → Tree Rule 0 w n → Valid w × ((s : Stack (B .H)) × (c : B .H) × Reduced B w s c × (tags s ≤ most))

@@ -1,7 +1,7 @@
--- Images and events. Document 01, "Rounds and heights": "After round r the images are the pairs (useful nonterminal, summary) of all its
--- trees of height at most r. Round r meets an event when, among trees of height at most r under useful nonterminals: 1. some string is
--- mismatched; 2. some string of the start is not a valid page; 3. some string reduces to more than 16 tags; 4. there are more than 256
--- images." Here over any grammar and binoid, any notion of valid, at most `most` tags and `cap` images.
+-- Images and events (Rules, section 8). Round r knows the trees up to height r of the useful nonterminals. A nonterminal with the summary of
+-- such a tree's string is an image; the events are a string with a mismatch, one of the start that is no valid page, one with too many
+-- tags left, and too many images. Here over any grammar and binoid, any notion of valid, at most `most` tags and `cap` images: 16 and 256
+-- in the rules.
 use mathlib.Core.List.{List, [], _∷_, List·Memᴰ}
 use Prim.Native.Nat.{ℕ, zero, suc, pred, _≤_, _<_}
 use lib.ListN.{length}
@@ -24,7 +24,7 @@ pub data Distinct {A : Type 0} : List A → Type 0 where
   distinct-more : {x : A} {l : List A} → (List·Memᴰ x l → ⊥) → Distinct l → Distinct (x ∷ l)
 
 module _ (Rule : ℕ → List Symbol → Type 0) (B : Binoid) (Valid : List Tag → Type 0) (most cap : ℕ) where
-  -- the string has a tree of height at most r under the useful nonterminal
+  -- the string has a tree, no higher than r, under the useful nonterminal
   pub record Under (r x : ℕ) (w : List Tag) : Type 0 where
     pub useful : Useful Rule x
     pub height : ℕ

@@ -1,5 +1,5 @@
--- What the rules make of a set of images: the summaries of a rule's symbols, joined in their order. Document 01, "Rounds and heights": the
--- walk of a round goes "over rules and pairs of images".
+-- What the rules make of a set of images: the summaries of a rule's symbols, joined in their order. Rules, section 8: for each rule a
+-- round's walk takes the pairs of images on its right side.
 use mathlib.Core.Path.{_≡_}
 use mathlib.Core.List.{List, [], _∷_}
 use Prim.Native.Nat.{ℕ, zero, suc}

@@ -1,6 +1,6 @@
--- Derivation trees of a grammar, and useful nonterminals. Document 01, "Rounds and heights": "A nonterminal is useful when it derives some
--- tag string and can be reached from the start through rules whose nonterminals all derive some. A rule without nonterminals makes a tree
--- of height 1; any other tree is one higher than its highest subtree."
+-- Derivation trees of a grammar, and useful nonterminals. Rules, section 8: a tree whose top rule has no nonterminal has height 1, another
+-- is 1 more than the highest tree below it; useful is what derives a string itself, and is reached from the start by rules in which every
+-- nonterminal derives one.
 use mathlib.Core.List.{List, [], _∷_, _++_}
 use Prim.Native.Nat.{ℕ, suc, max}
 use Rattle.words.specs.Tags.{Tag}
@@ -25,7 +25,7 @@ module _ (Rule : ℕ → List Symbol → Type 0) where
   abbrev pub Productive : ℕ → Type 0
   Productive x = AllProductive (nonterminal x ∷ [])
 
-  -- reached from the start through rules whose nonterminals all derive some
+  -- the start, and what a right side of something reached has, if the whole right side derives some string
   pub data Reached : ℕ → Type 0 where
     start-reached : Reached 0
     rule-reached : {x y : ℕ} (l r : List Symbol) → Reached x → Rule x (l ++ (nonterminal y ∷ r))

@@ -1,5 +1,5 @@
--- The deciding round. Document 01, "Rounds and heights": "The first round with an event decides, and in it the lowest number. A round
--- without event and without a new image is a pass. Rounds are counted against a budget." Over any events and any notion of new.
+-- The deciding round. Rules, section 8: rounds go on until one has an event, of which the lowest number counts, or has neither an event nor
+-- a new image, which is a pass; or until the budget is used. Over any events and any notion of new.
 use Prim.Native.Nat.{ℕ, _≤_, _<_}
 
 -- what the rounds come to: an event in a round, a pass in a round, or the budget used

@@ -1,5 +1,5 @@
--- A summary as a lent row, in the layout of a worktable row with nonterminal part 0. Document 01, "Answer numbers": "nonterminal + 256·ends
--- + 65,536·starts; two entries of tag names, eight bytes each, first lowest; 17 relations."
+-- A summary as a lent row, in the layout of a worktable row with nonterminal part 0. Rules, section 10: one entry for the counts, two for
+-- the names of the tags, 17 for the relations.
 use mathlib.Core.Path.{_≡_}
 use mathlib.Core.List.{List, _++_}
 use Prim.Native.Nat.{ℕ, suc}

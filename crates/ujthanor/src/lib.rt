@@ -1,5 +1,5 @@
-// What C and Rust link: numbers and slices only. Each call hands on to the crate that makes its promise, and lays the reply out in document
-// 01's numbers. A summary is a row in the worktable's layout, its nonterminal part 0. Nothing is asked of what is lent.
+// What C and Rust link: numbers and slices only. Each call hands on to the crate that makes its promise, and lays the reply out in numbers
+// (Rules, section 9). A summary is a row in the worktable's layout, its nonterminal part 0 (section 10). Nothing is asked of what is lent.
 ghost use mathlib.Core.Path.{_≡_};
 ghost use Prim.Native.Nat.{_≤_};
 ghost use lib.ListN.{length};

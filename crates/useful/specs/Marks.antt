@@ -1,5 +1,5 @@
--- Marks of nonterminals as the bits of a number, and the rules as they are lent. Document 01: at most 64 nonterminals; a used symbol from
--- 64 on is a nonterminal.
+-- Marks of nonterminals as the bits of a number, and the rules as they are lent. Rules, sections 2 and 4: there are at most 64
+-- nonterminals, and a symbol from 64 on that the rule's length counts is one.
 use mathlib.Core.Path.{_≡_}
 use mathlib.Core.Bool.{Bool, true, _&&_, cond}
 use mathlib.Core.List.{List, [], _∷_}

@@ -140,7 +140,7 @@ fn pass_down(rules: &[u8], productive: u64, marks: u64) -> u64
     m
 }
 
-// The nonterminals that the start reaches through rules whose nonterminals all derive some.
+// The nonterminals that the start reaches by rules in which each nonterminal derives some string.
 pub fn reached(rules: &[u8], productive: u64) -> u64
     requires { ⌜ RulesInRange (now rules) ⌝ }
     requires { ⌜ MarksAll productive (Productive (Gives (now rules))) ⌝ }

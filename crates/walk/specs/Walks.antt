@@ -1,5 +1,5 @@
--- One round's walk over rules and pairs of images. Document 01, "Rounds and heights": "The nested walk over rules and pairs of images stops
--- at the first mismatch." Invalid pages, strings that are too deep and images past 256 are noted, and the walk goes on. The book's rows
+-- One round's walk: the rules, and for each the pairs of images on its right side. Rules, section 8: only a mismatch ends it at once.
+-- Invalid pages, strings that are too deep and images past 256 are noted, and the walk goes on. The book's rows
 -- are the images before the round; what the walk finds new goes behind them.
 use mathlib.Core.Path.{_≡_}
 use mathlib.Core.Bool.{Bool, true, false}

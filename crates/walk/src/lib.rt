@@ -1,7 +1,7 @@
-// One round's walk over rules and pairs of images. The images before the round are the first rows of the lent table; what the walk finds
-// goes behind them, so that no image of the same round is used. A pair of images of which both were there two rounds ago was joined then,
-// and is passed over; rules with the same right side are walked once, under the first useful one. Which rules those are is found once a
-// check, and a rule none of whose nonterminals has a new row costs one look a round.
+// One round's walk (Rules, section 8): the rules, and for each its pairs of images. The images before the round are the first rows of the
+// lent table; what the walk finds goes behind them, so that no image of the same round is used. A pair of images of which both were there
+// two rounds ago was joined then, and is passed over; rules with the same right side are walked once, under the first useful one. Which
+// rules those are is found once a check, and a rule none of whose nonterminals has a new row costs one look a round.
 ghost use mathlib.Core.Path.{_≡_};
 ghost use Prim.Native.Nat.{_+_, _*_, _/_, _<_, _≤_};
 ghost use lib.Dec.{ltb};

@@ -1,5 +1,5 @@
--- Balanced and mismatched words. Document 01: on the meaning of "balanced" the source decides (Minamide and Tozawa, section 3.1); "A
--- string is mismatched when it holds start a, a balanced string, end b with a and b different."
+-- Balanced and mismatched words. Rules, section 3; what is balanced is as the source defines it (Minamide and Tozawa, section 3.1).
+-- Mismatched is a word in which the end tag behind a start tag and a balanced word has another name.
 use mathlib.Core.Path.{_≡_}
 use mathlib.Core.List.{List, [], _∷_, _++_}
 use Prim.Native.Nat.{ℕ}

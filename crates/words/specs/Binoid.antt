@@ -12,7 +12,7 @@ pub record Binoid : Type 1 where
   pub compose : H → H → H
   pub wrap : ℕ → H → H
 
--- "Similarly to monoids, the product is associative and ε is its unit": on good elements, which the three operations do not leave
+-- a monoid's laws, which the source asks for: associative product, unit; on good elements, which the three operations do not leave
 pub record Laws (B : Binoid) : Type 1 where
   pub Good : B .H → Type 0
   pub good-unit : Good (B .unit)

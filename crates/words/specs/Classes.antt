@@ -1,4 +1,4 @@
--- What a byte of a page or fragment is: start of a, end of a, or no tag. Document 01: "10: not a tag below A".
+-- What a byte of a page or fragment is: start of a, end of a, or no tag (Rules, section 1; answer 10 of section 9).
 use Prim.Native.Nat.{ℕ}
 use Rattle.words.specs.Tags.{Tag, start, end, Spells}
 use Rattle.words.specs.declared.Class.{Class}

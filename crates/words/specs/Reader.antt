@@ -1,5 +1,5 @@
--- Reading and joining as they are carried out, over any binoid. Document 01, "Reduced forms": "A fragment is read tag by tag, left to
--- right"; "Joining tries the innermost start of the left against the first end of the right, and so outward." That they give the
+-- Reading and joining as they are carried out, over any binoid. Rules, section 7: reading takes one tag at a time, from the left; joining
+-- goes from the seam outward, where the right form's first end meets the start that the left opened last. That they give the
 -- reduced form is shown in proofs/ReadLaws.antt and proofs/JoinLaws.antt.
 use mathlib.Core.Path.{_≡_}
 use mathlib.Core.List.{List, [], _∷_}
@@ -41,7 +41,7 @@ module _ (B : Binoid) where
   then-tag (reduced s c) t = step s c t
   then-tag (differ a b) t = differ a b
 
-  -- tag by tag, left to right
+  -- one tag after the other, from the left
   unfoldable pub run : Outcome (B .H) → List Tag → Outcome (B .H)
   run o [] = o
   run o (t ∷ w) = run (then-tag o t) w
@@ -54,7 +54,7 @@ module _ (B : Binoid) where
   then-value (reduced s c) h = reduced s (B .compose c h)
   then-value (differ a b) h = differ a b
 
-  -- the right form's values and tags in their order: its first end meets the innermost start of the left, and so outward
+  -- the right form's values and tags in their order: its first end meets the start opened last, the next the one before, outward
   unfoldable pub join : Outcome (B .H) → Stack (B .H) → B .H → Outcome (B .H)
   join o bottom c = then-value o c
   join o (push s h t) c = then-value (then-tag (join o s h) t) c

@@ -1,6 +1,6 @@
 -- The reduced form of a word, by its factorisation. The source, sections 2 and 3.2: a word that is not mismatched is balanced words
--- with unmatched end tags and then unmatched start tags between them; ν puts the value of each balanced word in its place. Document
--- 01, "Reduced forms": "reduces to unmatched end tags, then unmatched start tags, with a relation before, between and after them".
+-- with unmatched end tags and then unmatched start tags between them; ν puts the value of each balanced word in its place. Rules,
+-- section 6: what stays of a string when its complete elements are struck out.
 use mathlib.Core.List.{List, [], _∷_, _++_}
 use Prim.Native.Nat.{ℕ, suc}
 use lib.IntN.{ℤ, pos, _-ℤ_}
@@ -45,7 +45,7 @@ module _ {H : Type 0} where
   ends (push s h (start a)) = ends s
   ends (push s h (end a)) = suc (ends s)
 
-  -- "Net depth is starts minus ends"
+  -- the net depth: its starts less its ends
   unfoldable pub net : Stack H → ℤ
   net s = pos (starts s) -ℤ pos (ends s)
 

@@ -1,5 +1,5 @@
--- Tags and the bytes that stand for them. Document 01, "Tags, templates, schema": "There are A element names, 0 to A−1, A from 1 to
--- 32. Byte a is the start tag of a; byte 32+a its end tag."
+-- Tags and the bytes that stand for them. Rules, section 1: names are numbers below A, at most 32 of them; the start tag of a name
+-- is spelled by the name, its end tag by 32 more.
 use Prim.Native.Nat.{ℕ, _+_, _<_}
 
 -- the start tag or the end tag of an element

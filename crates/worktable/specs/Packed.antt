@@ -1,5 +1,5 @@
--- A worktable row as a nonterminal and its summary, and the limits of the table. Document 01, "Answer numbers": "nonterminal + 256·ends +
--- 65,536·starts; two entries of tag names, eight bytes each, first lowest; 17 relations. Unused places are 0."
+-- A worktable row as a nonterminal and its summary, and the limits of the table. Rules, section 10: the first entry has the nonterminal and
+-- the two counts, the next two the tag names, a byte each, then come the 17 relations; what is not used is 0.
 use mathlib.Core.Path.{_≡_}
 use mathlib.Core.List.{List, [], _∷_}
 use Prim.Native.Nat.{ℕ, zero, suc, _+_, _*_, _/_, _%_, _^_, _<_}

@@ -54,7 +54,7 @@ pub fn sets() {
         "Checks",
         "Budget 257. Table 1 of the source: sets made with its numbers of nonterminals and rules, and with its column Irr(X) as the tags \
          of the longest reduced form, over a page schema of 9 rules and 8 states; its depths are not followed. The first is scaled from \
-         102 and 170 to 64 and 107, document 01's limit of nonterminals. The hostile sets have two nonterminals of 100 images each.",
+         102 and 170 to 64 and 107, for the limit of nonterminals. The hostile sets have two nonterminals of 100 images each.",
     );
     let mut table = headed(&["set", "nonterminals", "rules"]);
     for (label, set) in [

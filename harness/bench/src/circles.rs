@@ -2,7 +2,7 @@
 use crate::files::{symbol, Entry, Set};
 use std::collections::BTreeSet;
 
-/// Document 01's limit of template rules.
+/// The limit of template rules (Rules, section 4).
 const RULES: usize = 256;
 
 /// So many nonterminals in a circle that nests one element more each time round; the last gives what is open.

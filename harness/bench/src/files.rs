@@ -1,4 +1,4 @@
-//! Template files: document 01's layout, and the sets that are timed.
+//! Template files: their layout (Rules, section 4), and the sets that are timed.
 use plain::file::File;
 use seeds::Rng;
 use std::collections::BTreeSet;
@@ -10,7 +10,7 @@ pub fn symbol(nonterminal: u8) -> u8 {
     64 + nonterminal
 }
 
-/// What a file holds; `bytes` lays it out as document 01 says.
+/// What a file holds; `bytes` lays it out (Rules, section 4).
 #[derive(Clone, Default)]
 pub struct Set {
     pub names: u8,
@@ -36,7 +36,7 @@ impl Set {
     }
 }
 
-/// Document 01's file K.
+/// File K (Rules, section 11).
 pub fn k() -> Set {
     Set {
         names: 2,
@@ -78,7 +78,7 @@ pub fn idle_schema(rules: usize) -> Set {
     set
 }
 
-/// 64 nonterminals in a chain, each giving the next; the last gives one of four empty elements, or also the empty string.
+/// A chain of 64 nonterminals that ends in one of four empty elements, or also in the empty string (Rules, section 11).
 pub fn chain(with_empty: bool) -> Set {
     let mut rules: BTreeSet<Entry> = (0..63).map(|i| [i, 1, 65 + i, 255]).collect();
     rules.extend((0..4).map(|i| [63, 2, i, 32 + i]));

@@ -1,9 +1,9 @@
-//! Schemas of document 01: those it names, and random ones.
+//! Schemas (Rules, section 3): those that the rules name, and random ones.
 use plain::file::File;
 use seeds::Rng;
 use std::collections::BTreeSet;
 
-/// A rule X, a, Y, Z: X gives start a, Y, end a, Z.
+/// A rule X, a, Y, Z: from state X an element a, with Y inside it and Z behind it.
 pub type Rule = [u8; 4];
 
 /// A regular hedge grammar. State 0 is the start; rules and endings ascend.
@@ -59,7 +59,7 @@ impl Schema {
     }
 }
 
-/// The schemas that document 01 names: that of K, of the doubling set, and of the chain.
+/// The schemas that the rules name (section 11): that of K, of the doubling set, and of the chain.
 pub fn named() -> Vec<Schema> {
     let k = [[0, 0, 0, 1], [0, 0, 1, 0], [0, 1, 1, 1], [1, 0, 1, 1]];
     let chain: Vec<Rule> = (0..4).map(|i| [0, i, 0, i + 1]).collect();

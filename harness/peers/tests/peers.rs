@@ -79,7 +79,7 @@ fn read(file: &[u8], page: &[u8]) -> Option<Verdict> {
     }
 }
 
-/// The schemas of a group: document 01's own in the first, then random ones, every second of them deterministic.
+/// The schemas of a group: those that the rules name in the first, then random ones, every second of them deterministic.
 fn schemas(group: usize) -> Vec<Schema> {
     let size = group % 8;
     let mut numbers = Rng::new(1000 + group as u64);

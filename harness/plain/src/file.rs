@@ -1,6 +1,6 @@
 //! The template file: its order of reading, its first fault, its three lists; and its layout, for those who make one.
 
-/// A sound file: its three numbers and its lists, which are parts of the lent file.
+/// A sound file: its three numbers and its lists, each a stretch of the lent bytes.
 #[derive(Clone, Copy, Debug)]
 pub struct File<'a> {
     pub names: u8,
@@ -12,7 +12,7 @@ pub struct File<'a> {
 }
 
 impl File<'_> {
-    /// The file laid out as document 01 says: contents first, then the bodies. It is sound where its parts are.
+    /// The file as section 4 of the rules lays it out, the contents before the bodies. It is sound where its parts are.
     pub fn bytes(&self) -> Vec<u8> {
         let second = 16 + 4 * self.rules.len();
         let third = second + 4 * self.schema.len();

@@ -1,7 +1,7 @@
-//! Document 01 in plain Rust, written from the document alone.
+//! The product's rules in plain Rust, written from the rules alone; docs/RULES.md has them.
 //!
 //! The five calls behave exactly as the library's C boundary does. `oracle` holds a second, slow
-//! reading of the same document, straight from its definitions, for the properties.
+//! reading of the same rules, straight from their definitions, for the properties.
 
 pub mod answer;
 mod calls;

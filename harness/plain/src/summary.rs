@@ -1,4 +1,4 @@
-//! Summaries: unmatched ends, then unmatched starts, with a relation before, between and after.
+//! Summaries (Rules, section 6): the ends and starts that stay unmatched, and the relations around them.
 
 use crate::relation::{compose, Relation, Schema};
 use crate::{Row, DEEPEST, ROW};

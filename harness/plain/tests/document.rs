@@ -1,4 +1,4 @@
-//! Document 01's cases: file K and "Both sides of each line".
+//! The cases of the rules (sections 7 and 11): file K, and both sides of each limit.
 
 use plain::file::File;
 use plain::{check, fragment, join, net_depth, page, TABLE};
@@ -105,7 +105,7 @@ fn joins() {
 
 #[test]
 fn ten_and_ten_and_twenty() {
-    // Ten 0 before (ten 0 and twenty 32): the right one reduces to ten ends.
+    // Ten starts, joined with ten starts and twenty ends: the right one reduces to ten ends.
     let right = [vec![0; 10], vec![32; 20]].concat();
     let (answer, row) = joined(&[0; 10], &right);
     assert_eq!((answer, row[0]), (0, 0));
@@ -159,7 +159,7 @@ fn start_derives_nothing() {
     assert_eq!(line(&file([2, 3, 2], vec![], &[], &[])), (6, 0, 0));
 }
 
-/// `steps` nonterminals that double start a, as many that double end a, the start their pair.
+/// `steps` nonterminals that double the start tag, as many the end tag, and the start is both in a row.
 fn doubling(steps: u8) -> Vec<u8> {
     let mut rules = vec![[0, 2, 65, 65 + steps]];
     for (first, tag) in [(1, 0), (1 + steps, 32)] {
@@ -180,7 +180,7 @@ fn doublings() {
     assert_eq!(line(&doubling(6)), (3, 6, 0));
 }
 
-/// 64 nonterminals in a chain; the last gives one of four empty elements, or also nothing.
+/// A chain of 64 nonterminals that ends in one of four empty elements, or also in nothing.
 fn chain(nothing: bool) -> Vec<u8> {
     // An empty element is two tags, so the last nonterminal gives it itself.
     let mut rules: Vec<[u8; 4]> = (0..63).map(|n| [n, 1, 65 + n, 255]).collect();

@@ -1,4 +1,4 @@
-//! The two readings of document 01 against each other, and the definitions on small words.
+//! The two readings of the rules against each other, and the definitions on small words.
 
 use plain::file::read;
 use plain::oracle::contexts::contexts;

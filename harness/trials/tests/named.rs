@@ -1,4 +1,4 @@
-//! Document 01's own cases, given to the library itself.
+//! The cases of the rules (sections 7 and 11), given to the library itself.
 
 use plain::{ROW, TABLE};
 use trials::gen::named;

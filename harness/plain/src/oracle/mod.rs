@@ -1,4 +1,4 @@
-//! Document 01 read from its definitions, with no thought of speed: words, derivations, trees.
+//! The rules read from their definitions, with no thought of speed: words, derivations, trees.
 //!
 //! Nothing here uses the summaries, relations or rounds of the fast calls.
 

@@ -5,7 +5,7 @@ use super::words::{mismatched, reduced, Balanced};
 use crate::file::File;
 use crate::{Row, ROW};
 
-/// The first place with 10, 11 or 12.
+/// Where the reading ends, if it does, and by which of 10, 11 and 12.
 fn refusal(file: &File, bytes: &[u8]) -> Option<(u32, u64)> {
     (0..bytes.len()).find_map(|place| {
         let beginning = &bytes[..=place];
@@ -43,8 +43,8 @@ pub fn fragment(file: &File, bytes: &[u8]) -> (u32, u64, Row) {
     (0, 0, row(0, &tags, &relations))
 }
 
-/// The row of a nonterminal with a summary of at most 16 tags, place by place as the document lists
-/// them.
+/// The row of a nonterminal with a summary of at most 16 tags, place by place as section 10 of the
+/// rules lists them.
 pub fn row(nonterminal: usize, tags: &[u8], relations: &[u64]) -> Row {
     let starts = tags.iter().filter(|&&tag| tag < 32).count();
     let ends = tags.len() - starts;

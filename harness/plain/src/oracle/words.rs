@@ -12,7 +12,7 @@ pub struct Balanced {
 }
 
 impl Balanced {
-    /// A balanced string is empty, or start a, a balanced string, end a, a balanced string.
+    /// A string is balanced if it is empty, or an element around a balanced string and a balanced string behind it.
     pub fn of(word: &[u8]) -> Self {
         let size = word.len() + 1;
         let mut all = Balanced {
@@ -38,7 +38,7 @@ impl Balanced {
     }
 }
 
-/// Whether the word holds start a, a balanced string, end b with a and b different.
+/// Whether somewhere the end tag behind a start tag and a balanced string has another name.
 pub fn mismatched(word: &[u8]) -> bool {
     let balanced = Balanced::of(word);
     (0..word.len()).any(|i| {

@@ -1,4 +1,4 @@
-//! The files that document 01 names, and families around them that reach its limits.
+//! The files that the rules name (section 11), and families around them that reach the limits.
 
 use super::draft::{end, nonterminal, rule, start, Draft};
 
@@ -51,7 +51,7 @@ fn free(nonterminals: u8, rules: Vec<[u8; 4]>) -> Draft {
     }
 }
 
-/// `steps` nonterminals doubling start a, as many doubling end a, the start their pair.
+/// `steps` nonterminals double the start tag, as many the end tag, and the start is both in a row.
 pub fn doubling(steps: u8) -> Draft {
     let mut rules = vec![rule(0, &[nonterminal(1), nonterminal(1 + steps)])];
     for (first, tag) in [(1, start(0)), (1 + steps, end(0))] {
@@ -150,7 +150,7 @@ pub struct Named {
     pub line: (u32, u64, u64),
 }
 
-/// The document's files and the limits of rounds and images, with their lines.
+/// The files of the rules and the limits of rounds and images, with their lines.
 pub fn all() -> Vec<Named> {
     let of = |name, draft, budget, line| Named {
         name,

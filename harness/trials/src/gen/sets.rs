@@ -73,7 +73,7 @@ pub fn symbol(draft: &Draft, rng: &mut Rng) -> u8 {
     }
 }
 
-/// A file of document 01.
+/// A file that the rules name.
 fn named(rng: &mut Rng) -> Draft {
     let mut all = named::all();
     all.swap_remove(rng.below(all.len())).draft
