@@ -1,4 +1,4 @@
-//! The files that document 01 names, and families around them that reach its limits.
+//! The files that the rules name (docs/RULES.md), and families around them that reach the limits.
 
 use super::draft::{end, nonterminal, rule, start, Draft};
 
@@ -150,7 +150,7 @@ pub struct Named {
     pub line: (u32, u64, u64),
 }
 
-/// The document's files and the limits of rounds and images, with their lines.
+/// The rules' files and the limits of rounds and images, with their lines.
 pub fn all() -> Vec<Named> {
     let of = |name, draft, budget, line| Named {
         name,
