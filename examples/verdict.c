@@ -2,7 +2,7 @@
  *
  *     cc -Iinclude examples/verdict.c target/staticlib/libujthanor.a -o target/verdict && target/verdict
  *
- * The set is file K of document 01: elements a (0) and b (1). Its templates write <a><b></b></a>:
+ * The set is file K of the rules (docs/RULES.md): elements a (0) and b (1). Its templates write <a><b></b></a>:
  *     page    -> opening </a>       opening -> <a> middle       middle -> <b> </b>
  * and its schema asks for exactly one b among any a. */
 #include <stdio.h>
