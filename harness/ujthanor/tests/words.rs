@@ -32,6 +32,17 @@ fn a_set() {
 }
 
 #[test]
+fn threads_share_a_file() {
+    let checked = || check(&K, &mut vec![7; TABLE], BUDGET).map(|pass| pass.images);
+    std::thread::scope(|scope| {
+        let threads: Vec<_> = (0..8)
+            .map(|_| scope.spawn(|| (0..100).all(|_| checked() == Ok(3))))
+            .collect();
+        assert!(threads.into_iter().all(|thread| thread.join().unwrap()));
+    });
+}
+
+#[test]
 fn pages() {
     let refused = |answer, number| refused(Call::Page, answer, number);
     assert_eq!(page(&K, &[0, 1, 33, 32]), Ok(()));
