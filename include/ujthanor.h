@@ -1,15 +1,36 @@
-/* Ujthanor: does every page of a template set pass its schema? Is this page valid? What is the summary of this fragment, and of two laid
- * end to end?
+/* Ujthanor: five calls about pages that are made from templates.
  *
- * Link with libujthanor.a (`rt staticlib ujthanor`; x86-64). Every call ends on any bytes, allocates nothing, keeps nothing between calls
- * and may be made from any thread. What each promises is proved (crates/ujthanor); what is asked here of the caller's pointers is C's own:
+ *   ujthanor_check       is every page that a template set can produce valid under its schema?
+ *   ujthanor_page        is this page valid?
+ *   ujthanor_fragment    what is the summary of this fragment? (20 numbers, which a cache can keep)
+ *   ujthanor_join        what is the summary of two fragments laid end to end?
+ *   ujthanor_net_depth   how many more elements does a summarised fragment open than it closes?
  *
- *   - a pointer with a length points to that many readable (written: writable) entries, aligned to their type, and is never null; where the
- *     length is 0 it may point anywhere else that is not null;
- *   - what a call writes does not overlap anything else that it is lent.
+ * A page or fragment is a run of tags, one byte each: byte a is the start tag of element a, byte 32 + a its end tag. A template file holds
+ * a template set and its schema in at most 1,560 bytes. docs/RULES.md has the rules: section 4 the layout of a template file, sections 6 to
+ * 8 summaries, joining and rounds, section 9 the answers. examples/verdict.c shows every call.
  *
- * A template file has the layout of document 01, at most 1,560 bytes. A page or fragment is a run of tags, a byte each: a is the start tag of
- * element a, 32 + a its end tag. */
+ * Link with libujthanor.a (`rt staticlib ujthanor`; x86-64). Every call ends, whatever the bytes are. No call allocates, prints, or keeps
+ * anything from one call to the next.
+ *
+ * What a caller must see to. The library cannot test these points; where one is not kept, anything may happen.
+ *
+ *   Lengths.  A pointer with a length points to that many entries, aligned to their type, that may be read (`table` and the `row` of
+ *             fragment and join: read and written). It may be null only where the length is 0; (NULL, 0) is answered as no bytes, no table
+ *             or no row.
+ *   Numbers.  `number`, `images` and `depth` each point to an object that may be written. They are written by every call that takes them,
+ *             whatever it answers, also 9 and 17. A null pointer there is a crash: pass a variable also where you do not want the number.
+ *   Overlap.  What a call writes (`table`, the `row` of fragment and join, `*number`, `*images`, `*depth`) shares no byte with anything
+ *             else that the same call is lent. A file that lies inside the worktable, for example, is overwritten while it is read, and
+ *             the check can then pass a set that is broken. Things that are only read may overlap: `left` and `right` may be one row.
+ *   Threads.  During a call nobody else writes what the call is lent, and nobody else reads what it writes. Any number of threads may call
+ *             at once, each with a worktable, row and numbers of its own; a file or page that all only read may be shared.
+ *   Stack.    UJTHANOR_STACK bytes of the caller's stack are free. No function of the archive calls itself, so the need does not grow with
+ *             what is lent. On a painted stack (tests/c_stack.c) the deepest call, a check, used 5,617 bytes, and 8,472 where the dynamic
+ *             linker had yet to look up memcpy and memset, which are all that the archive calls outside itself.
+ *
+ * What is proved, and what is trusted. That each call answers as said here is proved of its source (crates/ujthanor, crates/demands).
+ * Trusted are the points above, that these declarations say what the archive exports, and the compiler that wrote the archive. */
 #ifndef UJTHANOR_H
 #define UJTHANOR_H
 
@@ -20,58 +41,72 @@
 extern "C" {
 #endif
 
+/* Rises by one whenever a public layout changes: a summary's row, the worktable, the template file, or the numbers of the answers. Store it
+ * with rows that are kept, and make those anew that were stored with another. */
+#define UJTHANOR_LAYOUT 1
+
 enum {
     UJTHANOR_TABLE = 5120, /* entries of a worktable */
     UJTHANOR_ROW = 20,     /* entries of a summary's row */
-    UJTHANOR_BUDGET = 257  /* the largest budget; with it a check never answers 5 */
+    UJTHANOR_BUDGET = 257, /* the largest budget; with it a check never answers 5 */
+    UJTHANOR_STACK = 16384 /* bytes of stack that suffice for any call */
 };
 
-/* The answers. In brackets: the further number. */
+/* The answers. In brackets: what `*number` then is. */
 enum ujthanor_answer {
-    UJTHANOR_OK = 0,              /* passed [the round], valid, summarised, joined [0] */
-    UJTHANOR_BROKEN_MISMATCH = 1, /* check: some page has a mismatch [the first round that meets it] */
-    UJTHANOR_BROKEN_INVALID = 2,  /* check: some page is invalid [the first round that meets it] */
-    UJTHANOR_SET_TOO_DEEP = 3,    /* check, undecided: some part reduces to more than 16 tags [round] */
-    UJTHANOR_CROWDED = 4,         /* check, undecided: more than 256 images [round] */
-    UJTHANOR_BUDGET_USED = 5,     /* check, undecided: no event and no pass [the budget] */
-    UJTHANOR_NO_PAGE = 6,         /* check: the start derives no page [0] */
-    UJTHANOR_BAD_FILE = 7,        /* any call: bad template file [place of the first fault] */
-    UJTHANOR_BAD_BUDGET = 8,      /* check: budget outside 1 to 257 [0] */
-    UJTHANOR_SHORT_TABLE = 9,     /* check: worktable under 5,120 entries [0] */
-    UJTHANOR_NOT_A_TAG = 10,      /* page, fragment: a byte that is no tag of the file's names [place] */
-    UJTHANOR_MISMATCH = 11,       /* page, fragment: an end that does not match its start [place]; join [0] */
-    UJTHANOR_TOO_DEEP = 12,       /* page, fragment: more than 16 unmatched tags [place]; join [0] */
+    UJTHANOR_OK = 0,              /* check: passed [the round]; other calls: valid, summarised, joined, measured [0] */
+    UJTHANOR_BROKEN_MISMATCH = 1, /* check: some page closes an element with another's end tag [the first round that meets it] */
+    UJTHANOR_BROKEN_INVALID = 2,  /* check: some page is not valid [the first round that meets it] */
+    UJTHANOR_SET_TOO_DEEP = 3,    /* check, undecided: some part leaves more than 16 tags unmatched [the round]: nine ends and eight
+                                     starts do; a balanced part 20 deep by itself does not */
+    UJTHANOR_CROWDED = 4,         /* check, undecided: more than 256 images [the round] */
+    UJTHANOR_BUDGET_USED = 5,     /* check, undecided: nothing was met in so many rounds, and the set has not passed [the budget] */
+    UJTHANOR_NO_PAGE = 6,         /* check: the set can produce no page at all [0] */
+    UJTHANOR_BAD_FILE = 7,        /* any call: the template file is not sound [the place of its first fault] */
+    UJTHANOR_BAD_BUDGET = 8,      /* check: the budget is not from 1 to 257 [0] */
+    UJTHANOR_SHORT_TABLE = 9,     /* check: the worktable has fewer than 5,120 entries [0] */
+    UJTHANOR_NOT_A_TAG = 10,      /* page, fragment: a byte that is no tag of the file's names [its place] */
+    UJTHANOR_MISMATCH = 11,       /* page, fragment: an end tag that does not match its start tag [its place]; join: the same [0] */
+    UJTHANOR_TOO_DEEP = 12,       /* page, fragment: the tag that leaves more than 16 unmatched [its place]; join: so many are left [0] */
     UJTHANOR_UNMATCHED = 13,      /* page: it ends with tags unmatched [0] */
-    UJTHANOR_NOT_DERIVED = 14,    /* page: balanced, but the schema does not derive it [0] */
+    UJTHANOR_NOT_DERIVED = 14,    /* page: all its tags match, but the schema does not derive it [0] */
     UJTHANOR_NO_SUMMARY = 15,     /* join, net depth: a lent row is no summary under the file [0] */
-    UJTHANOR_SHORT_ROW = 17       /* fragment, join: the lent row has fewer than 20 entries [0] */
+    UJTHANOR_SHORT_ROW = 17       /* fragment, join: the row to be written has fewer than 20 entries [0] */
 };
 
-/* Checks a template set against its schema. Answers, in this order: 9, 8, 7, 6, then the first round with an event 1 to 4 or, without one,
- * the pass 0; 5 where the budget is used before. `*number` is the round, the budget, the place or 0; `*images` the number of images of a
- * pass, else 0.
+/* Checks a template set against its schema, in rounds. Answers, in this order: 9, 8, 7, 6; then 1 to 4 by the first round that meets one of
+ * them, the lowest where it meets several; 0 after a round that meets none and finds nothing new; 5 where the budget ends before. `*images`
+ * is the number of images where the answer is 0, else 0.
  *
- * 0 means that every page the set can produce is valid; 1 and 2 that an invalid page can be produced; 3, 4 and 5 decide nothing.
+ * 0 means that every page the set can produce is valid, however deep it nests; 1 and 2 that it can produce one that is not; 3, 4 and 5
+ * decide nothing.
  *
  * The worktable: after 0 the images' rows, ascending, then zeros up to entry 5,120; after 1 to 5 zeros up to entry 5,120; after 6 to 9 as
  * it was. Entries past 5,120 never change. It need not be cleared before. */
 uint32_t ujthanor_check(const uint8_t *file, size_t file_len, uint64_t *table, size_t table_len, size_t budget, uint64_t *number,
                         uint64_t *images);
 
-/* Reads a page. Answers: 7; the earliest place with 10, 11 or 12; 13; 14; else 0, exactly when the page is valid. */
+/* Reads a page. Answers, in this order: 7; 10, 11 or 12, whichever stands earliest; 13; 14; else 0.
+ *
+ * 0 means that the page is valid, and 10, 11, 13 and 14 that it is not. 12 leaves that open: a valid page gets 0 where it nests at most 16
+ * deep; where it nests deeper it gets 12, and no other answer. */
 uint32_t ujthanor_page(const uint8_t *file, size_t file_len, const uint8_t *page, size_t page_len, uint64_t *number);
 
-/* Summarises a fragment into the first 20 entries of `row`. Answers: 17, and the row is not written; 7; the earliest place with 10, 11 or
- * 12; else 0. The row of a refusal is 20 zeros. Entries past the 20th never change. */
+/* Summarises a fragment into the first 20 entries of `row`. Answers, in this order: 17, and then the row is not written; 7; 10, 11 or 12,
+ * whichever stands earliest; else 0. Refused with 7 or 10 to 12, the row is 20 zeros. Entries past the 20th never change. */
 uint32_t ujthanor_fragment(const uint8_t *file, size_t file_len, const uint8_t *fragment, size_t fragment_len, uint64_t *row,
                            size_t row_len, uint64_t *number);
 
-/* Joins the summaries of two fragments laid end to end into `row`, as ujthanor_fragment writes it. `left` and `right` may hold anything: a
- * row that has not 20 entries, or is no summary under the file, is answered with 15. Answers: 17, 7, 15, 11, 12; else 0. */
+/* Joins the summaries of two fragments laid end to end into `row`, which is written as by ujthanor_fragment. Answers, in this order: 17, 7,
+ * 15, 11, 12; else 0.
+ *
+ * `left` and `right` may hold anything: what has not exactly 20 entries, or is no summary under the file, is answered with 15. A row that
+ * was made with another file may be a summary under this one too, but of nothing: keep rows together with their file. */
 uint32_t ujthanor_join(const uint8_t *file, size_t file_len, const uint64_t *left, size_t left_len, const uint64_t *right,
                        size_t right_len, uint64_t *row, size_t row_len, uint64_t *number);
 
-/* The net depth of a summary, starts minus ends, from -16 to 16, in `*depth`. Answers: 7, 15; else 0. The depth of a refusal is 0. */
+/* The net depth of a summary, starts minus ends, from -16 to 16, in `*depth`. Answers, in this order: 7, 15; else 0. The depth of a refusal
+ * is 0. */
 uint32_t ujthanor_net_depth(const uint8_t *file, size_t file_len, const uint64_t *row, size_t row_len, uint64_t *number,
                             int32_t *depth);
 

@@ -1,5 +1,9 @@
-//! The five calls as `include/ujthanor.h` declares them, over slices: a slice is a pointer and a length, and Rust's borrow rules
-//! give what the header asks (nothing that is written overlaps anything else that is lent).
+//! The five calls over slices: the answer is a number of the rules (docs/RULES.md, section 9), a summary a row of 20 entries.
+//!
+//! No call asks anything of its caller that safe Rust does not give. A slice is a pointer and a length; what a call writes is lent by
+//! `&mut`, so nothing else that it is lent overlaps it and no other thread touches it meanwhile.
+
+use crate::raw;
 
 /// A check's reply.
 #[derive(Clone, Copy, Debug, PartialEq, Eq)]
@@ -24,58 +28,27 @@ pub struct Depth {
     pub depth: i32,
 }
 
-mod raw {
-    extern "C" {
-        pub fn ujthanor_check(
-            file: *const u8,
-            file_len: usize,
-            table: *mut u64,
-            table_len: usize,
-            budget: usize,
-            number: *mut u64,
-            images: *mut u64,
-        ) -> u32;
-        pub fn ujthanor_page(
-            file: *const u8,
-            file_len: usize,
-            page: *const u8,
-            page_len: usize,
-            number: *mut u64,
-        ) -> u32;
-        pub fn ujthanor_fragment(
-            file: *const u8,
-            file_len: usize,
-            fragment: *const u8,
-            fragment_len: usize,
-            row: *mut u64,
-            row_len: usize,
-            number: *mut u64,
-        ) -> u32;
-        pub fn ujthanor_join(
-            file: *const u8,
-            file_len: usize,
-            left: *const u64,
-            left_len: usize,
-            right: *const u64,
-            right_len: usize,
-            row: *mut u64,
-            row_len: usize,
-            number: *mut u64,
-        ) -> u32;
-        pub fn ujthanor_net_depth(
-            file: *const u8,
-            file_len: usize,
-            row: *const u64,
-            row_len: usize,
-            number: *mut u64,
-            depth: *mut i32,
-        ) -> u32;
-    }
-}
-
+/// Is every page of the template set valid? The table needs 5,120 entries; what it holds before does not matter.
+///
+/// A file inside the table would be overwritten while it is read, and a broken set could pass. The borrow rules refuse it:
+///
+/// ```compile_fail,E0502
+/// let mut table = vec![0u64; ujthanor::TABLE];
+/// let (_, file, _) = unsafe { table.align_to::<u8>() };
+/// ujthanor::calls::check(file, &mut table, ujthanor::BUDGET);
+/// ```
+///
+/// With a copy of these bytes it is a call like any other:
+///
+/// ```
+/// let mut table = vec![0u64; ujthanor::TABLE];
+/// let (_, file, _) = unsafe { table.align_to::<u8>() };
+/// let file = file[..45].to_vec();
+/// assert_eq!(ujthanor::calls::check(&file, &mut table, ujthanor::BUDGET).answer, 7);
+/// ```
 pub fn check(file: &[u8], table: &mut [u64], budget: usize) -> Check {
     let (mut number, mut images) = (0, 0);
-    // SAFETY: each pointer comes with the length of its own slice, and the numbers are locals.
+    // SAFETY: each pointer comes with the length of its own slice, what is written is lent by `&mut`, and the numbers are locals.
     let answer = unsafe {
         raw::ujthanor_check(
             file.as_ptr(),
@@ -94,6 +67,7 @@ pub fn check(file: &[u8], table: &mut [u64], budget: usize) -> Check {
     }
 }
 
+/// Is the page valid? A valid page that nests deeper than 16 is answered with 12, and no other valid page is refused.
 pub fn page(file: &[u8], bytes: &[u8]) -> Reply {
     let mut number = 0;
     // SAFETY: as in `check`.
@@ -109,7 +83,8 @@ pub fn page(file: &[u8], bytes: &[u8]) -> Reply {
     Reply { answer, number }
 }
 
-/// A row of fewer than 20 entries is refused with 17 and not written; entries past the 20th never change.
+/// The summary of a fragment, in the first 20 entries of the row. A row of fewer is refused with 17 and not written; entries past the
+/// 20th never change.
 pub fn fragment(file: &[u8], bytes: &[u8], row: &mut [u64]) -> Reply {
     let mut number = 0;
     // SAFETY: as in `check`.
@@ -127,7 +102,14 @@ pub fn fragment(file: &[u8], bytes: &[u8], row: &mut [u64]) -> Reply {
     Reply { answer, number }
 }
 
-/// The row as for `fragment`; a left or right that is no summary's row is refused with 15.
+/// The summary of two fragments laid end to end, in the row as by [`fragment`]. A left or right that is no summary's row is refused
+/// with 15. `left` and `right` may be one row, but neither can be the row that is written:
+///
+/// ```compile_fail,E0502
+/// let (file, right) = ([0u8; 45], [0u64; ujthanor::ROW]);
+/// let mut row = [0u64; ujthanor::ROW];
+/// ujthanor::calls::join(&file, &row, &right, &mut row);
+/// ```
 pub fn join(file: &[u8], left: &[u64], right: &[u64], row: &mut [u64]) -> Reply {
     let mut number = 0;
     // SAFETY: as in `check`.
@@ -147,6 +129,7 @@ pub fn join(file: &[u8], left: &[u64], right: &[u64], row: &mut [u64]) -> Reply 
     Reply { answer, number }
 }
 
+/// Starts minus ends of a summary's row.
 pub fn net_depth(file: &[u8], row: &[u64]) -> Depth {
     let (mut number, mut depth) = (0, 0);
     // SAFETY: as in `check`.

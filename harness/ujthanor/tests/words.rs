@@ -1,28 +1,27 @@
-//! The calls in Rust's own words, on file K of document 01.
+//! The calls in Rust's own words, on the README's set.
 
-use ujthanor::{check, fragment, join, net_depth, page, Answer, Pass, Refusal, Summary};
+mod common;
+
+use common::K;
+use ujthanor::{
+    check, fragment, join, net_depth, page, Answer, Call, Number, Pass, Refusal, Summary,
+};
 use ujthanor::{BUDGET, ROW, TABLE};
 
-const K: [u8; 45] = [
-    2, 3, 2, 0, 16, 0, 3, 0, 28, 0, 4, 0, 44, 0, 1, 0, 0, 2, 65, 32, 1, 2, 0, 66, 2, 2, 1, 33, 0,
-    0, 0, 1, 0, 0, 1, 0, 0, 1, 1, 1, 1, 0, 1, 1, 1,
-];
-
-fn refused<T>(answer: Answer, number: u64) -> Result<T, Refusal> {
-    Err(Refusal { answer, number })
+fn refused<T>(call: Call, answer: Answer, number: u64) -> Result<T, Refusal> {
+    Err(Refusal::of(call, answer as u32, number))
 }
 
 #[test]
 fn a_set() {
     let mut table = [7; TABLE];
-    assert_eq!(
-        check(&K, &mut table, BUDGET),
-        Ok(Pass {
-            round: 4,
-            images: 3
-        })
-    );
+    let pass = Pass {
+        round: 4,
+        images: 3,
+    };
+    assert_eq!(check(&K, &mut table, BUDGET), Ok(pass));
     assert_eq!(table[0], 0);
+    let refused = |answer, number| refused(Call::Check, answer, number);
     assert_eq!(check(&K, &mut table, 3), refused(Answer::BudgetUsed, 3));
     assert_eq!(
         check(&K, &mut table[1..], 3),
@@ -33,13 +32,41 @@ fn a_set() {
 }
 
 #[test]
+fn threads_share_a_file() {
+    let checked = || check(&K, &mut vec![7; TABLE], BUDGET).map(|pass| pass.images);
+    std::thread::scope(|scope| {
+        let threads: Vec<_> = (0..8)
+            .map(|_| scope.spawn(|| (0..100).all(|_| checked() == Ok(3))))
+            .collect();
+        assert!(threads.into_iter().all(|thread| thread.join().unwrap()));
+    });
+}
+
+#[test]
 fn pages() {
+    let refused = |answer, number| refused(Call::Page, answer, number);
     assert_eq!(page(&K, &[0, 1, 33, 32]), Ok(()));
     assert_eq!(page(&K, &[2]), refused(Answer::NotATag, 0));
     assert_eq!(page(&K, &[0, 33]), refused(Answer::Mismatch, 1));
     assert_eq!(page(&K, &[0; 17]), refused(Answer::TooDeep, 16));
     assert_eq!(page(&K, &[0]), refused(Answer::Unmatched, 0));
     assert_eq!(page(&K, &[1, 33, 1, 33]), refused(Answer::NotDerived, 0));
+}
+
+/// A valid page that nests so deep: a in a, and innermost a b.
+fn nested(depth: usize) -> Vec<u8> {
+    [vec![0; depth - 1], vec![1, 33], vec![32; depth - 1]].concat()
+}
+
+#[test]
+fn a_valid_page_is_too_deep_past_16() {
+    for depth in 1..=16 {
+        assert_eq!(page(&K, &nested(depth)), Ok(()));
+    }
+    for depth in 17..40 {
+        let told = refused(Call::Page, Answer::TooDeep, 16);
+        assert_eq!(page(&K, &nested(depth)), told);
+    }
 }
 
 #[test]
@@ -51,10 +78,15 @@ fn cached_parts() {
     assert_eq!(join(&K, &head, &tail), fragment(&K, &[0, 1, 33, 32]));
     assert_eq!(join(&K, &head, &head).map(|s| net_depth(&K, &s)), Ok(Ok(4)));
     let other = fragment(&K, &[32]).unwrap();
-    assert_eq!(join(&K, &head, &other), refused(Answer::Mismatch, 0));
+    let refused = |answer| refused(Call::Join, answer, 0);
+    assert_eq!(join(&K, &head, &other), refused(Answer::Mismatch));
     let none = Summary([1; ROW]);
-    assert_eq!(join(&K, &head, &none), refused(Answer::NoSummary, 0));
-    assert_eq!(net_depth(&K, &none), refused(Answer::NoSummary, 0));
+    assert_eq!(join(&K, &head, &none), refused(Answer::NoSummary));
+    let told = net_depth(&K, &none).unwrap_err();
+    assert_eq!(
+        (told.call, told.answer),
+        (Call::NetDepth, Answer::NoSummary)
+    );
 }
 
 #[test]
@@ -65,6 +97,31 @@ fn every_answer_has_its_name() {
         assert_ne!(answer, Answer::Unknown);
     }
     assert_eq!(Answer::of(16), Answer::Unknown);
-    let told = page(&K, &[0, 33]).unwrap_err().to_string();
-    assert_eq!(told, "an end tag does not match its start tag at byte 1");
+}
+
+#[test]
+fn a_refusal_knows_what_its_number_is() {
+    let number = |call, answer: Answer| Refusal::of(call, answer as u32, 5).number;
+    for answer in &Answer::ALL[..4] {
+        assert_eq!(number(Call::Check, *answer), Number::Round(5));
+    }
+    assert_eq!(number(Call::Check, Answer::BudgetUsed), Number::Budget(5));
+    for call in [
+        Call::Check,
+        Call::Page,
+        Call::Fragment,
+        Call::Join,
+        Call::NetDepth,
+    ] {
+        assert_eq!(number(call, Answer::BadFile), Number::Place(5));
+    }
+    for answer in [Answer::NotATag, Answer::Mismatch, Answer::TooDeep] {
+        assert_eq!(number(Call::Page, answer), Number::Place(5));
+        assert_eq!(number(Call::Fragment, answer), Number::Place(5));
+    }
+    assert_eq!(number(Call::Join, Answer::Mismatch), Number::Nothing);
+    assert_eq!(number(Call::Join, Answer::TooDeep), Number::Nothing);
+    for answer in [Answer::NoPage, Answer::BadBudget, Answer::ShortTable] {
+        assert_eq!(number(Call::Check, answer), Number::Nothing);
+    }
 }

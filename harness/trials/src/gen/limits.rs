@@ -1,13 +1,12 @@
 //! Sound files that reach the limits: depth, images, rounds, counts.
 
 use super::draft::{nonterminal, rule, Draft};
-use super::sets::numbers;
-use super::{named, schemas, typed};
+use super::{named, numbers, schemas, typed};
 use seeds::Rng;
 
 /// Elements in elements without end, under few nonterminals: their pages nest past 16.
 pub fn nested(rng: &mut Rng) -> Draft {
-    let mut draft = numbers(rng);
+    let mut draft = numbers::any(rng);
     let kinds = draft.names.min(rng.byte(1, 3));
     draft.nonterminals = 1 + 2 * kinds;
     draft.rules = vec![rule(0, &[])];
@@ -27,7 +26,7 @@ pub fn nested(rng: &mut Rng) -> Draft {
 
 /// Few nonterminals that repeat many elements of different relations: many images in few rounds.
 pub fn crowd(rng: &mut Rng) -> Draft {
-    let mut draft = numbers(rng);
+    let mut draft = numbers::any(rng);
     draft.names = rng.byte(2, 8);
     draft.states = rng.byte(3, 8);
     draft.nonterminals = rng.byte(2, 4);
@@ -48,7 +47,7 @@ pub fn crowd(rng: &mut Rng) -> Draft {
 
 /// All counts at their limits: 256 rules, 128 schema rules, all states ending.
 pub fn full(rng: &mut Rng) -> Draft {
-    let mut draft = numbers(rng);
+    let mut draft = numbers::any(rng);
     (draft.names, draft.nonterminals, draft.states) = (32, 64, 8);
     if rng.once_in(2) {
         typed::rules(&mut draft, 6, rng);

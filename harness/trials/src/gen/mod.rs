@@ -1,9 +1,11 @@
-//! Inputs of every kind, from a seed.
+//! Inputs of every kind, from a seed. `sets` chooses among all kinds of sound files and stands on the rest: `limits`, `typed`, `schemas`,
+//! `named`, and these on `numbers` and `draft`.
 
 pub mod damage;
 pub mod draft;
 pub mod limits;
 pub mod named;
+pub mod numbers;
 pub mod pages;
 pub mod rows;
 pub mod sample;

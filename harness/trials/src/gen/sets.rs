@@ -1,7 +1,7 @@
 //! Sound template files of many shapes.
 
 use super::draft::{nonterminal, rule, Draft};
-use super::{limits, named, schemas, typed};
+use super::{limits, named, numbers, schemas, typed};
 use seeds::Rng;
 
 /// A sound file of any shape.
@@ -26,7 +26,7 @@ pub fn any(rng: &mut Rng) -> Draft {
 
 /// A small file, of which all trees of a few heights can be looked at one by one.
 pub fn small(rng: &mut Rng) -> Draft {
-    let mut draft = numbers(rng);
+    let mut draft = numbers::any(rng);
     draft.names = rng.byte(1, 2);
     draft.nonterminals = rng.byte(1, 5);
     draft.states = rng.byte(1, 3);
@@ -47,33 +47,7 @@ pub fn small(rng: &mut Rng) -> Draft {
     draft
 }
 
-/// Numbers at random, mostly small.
-pub fn numbers(rng: &mut Rng) -> Draft {
-    let (names, nonterminals) = match rng.below(8) {
-        0 => (rng.byte(1, 32), rng.byte(1, 64)),
-        1 => (32, 64),
-        _ => (rng.byte(1, 4), rng.byte(1, 9)),
-    };
-    Draft {
-        names,
-        nonterminals,
-        states: rng.byte(1, 8),
-        rules: Vec::new(),
-        schema: Vec::new(),
-        ending: Vec::new(),
-    }
-}
-
-/// Any symbol within a draft's numbers.
-pub fn symbol(draft: &Draft, rng: &mut Rng) -> u8 {
-    match rng.below(3) {
-        0 => rng.byte(0, draft.names - 1),
-        1 => 32 + rng.byte(0, draft.names - 1),
-        _ => nonterminal(rng.byte(0, draft.nonterminals - 1)),
-    }
-}
-
-/// A file that the rules name.
+/// A file that the rules name, or one of its family.
 fn named(rng: &mut Rng) -> Draft {
     let mut all = named::all();
     all.swap_remove(rng.below(all.len())).draft
@@ -81,10 +55,12 @@ fn named(rng: &mut Rng) -> Draft {
 
 /// Rules at random: most are broken in an early round.
 fn wild(rng: &mut Rng) -> Draft {
-    let mut draft = numbers(rng);
+    let mut draft = numbers::any(rng);
     let count = rng.pick(&[1, 3, 8, 30, 256]);
     for _ in 0..rng.within(0, count) {
-        let symbols: Vec<u8> = (0..rng.below(3)).map(|_| symbol(&draft, rng)).collect();
+        let symbols: Vec<u8> = (0..rng.below(3))
+            .map(|_| numbers::symbol(&draft, rng))
+            .collect();
         let left = rng.byte(0, draft.nonterminals - 1);
         draft.rules.push(rule(left, &symbols));
     }
@@ -94,7 +70,7 @@ fn wild(rng: &mut Rng) -> Draft {
 
 /// Typed, under a schema that takes all: passes or is crowded.
 fn passing(rng: &mut Rng) -> Draft {
-    let mut draft = numbers(rng);
+    let mut draft = numbers::any(rng);
     typed::rules(&mut draft, 4, rng);
     schemas::lenient(&mut draft, rng);
     draft
@@ -102,7 +78,7 @@ fn passing(rng: &mut Rng) -> Draft {
 
 /// Typed, under any schema: often an invalid page in some round.
 fn judged(rng: &mut Rng) -> Draft {
-    let mut draft = numbers(rng);
+    let mut draft = numbers::any(rng);
     typed::rules(&mut draft, 3, rng);
     schemas::any(&mut draft, rng);
     draft
@@ -120,7 +96,7 @@ fn barren(rng: &mut Rng) -> Draft {
     let mut draft = passing(rng);
     draft.rules.retain(|rule| rule[0] != 0);
     for _ in 0..rng.below(4) {
-        let other = symbol(&draft, rng);
+        let other = numbers::symbol(&draft, rng);
         draft.rules.push(rule(0, &[nonterminal(0), other]));
     }
     draft
@@ -134,7 +110,7 @@ fn merged(rng: &mut Rng) -> Draft {
     if count > 64 {
         return one;
     }
-    let mut draft = numbers(rng);
+    let mut draft = numbers::any(rng);
     draft.names = one.names.max(two.names);
     draft.nonterminals = count;
     draft.rules = vec![rule(0, &[nonterminal(1)])];

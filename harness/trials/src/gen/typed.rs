@@ -2,6 +2,7 @@
 //! they pass, and one changed symbol breaks them.
 
 use super::draft::{rule, Draft};
+use super::numbers;
 use seeds::Rng;
 use std::collections::HashMap;
 
@@ -102,7 +103,7 @@ pub fn spoil(draft: &mut Draft, rng: &mut Rng) {
     let at = rng.below(draft.rules.len());
     let length = draft.rules[at][1] as usize;
     if length > 0 {
-        let symbol = super::sets::symbol(draft, rng);
+        let symbol = numbers::symbol(draft, rng);
         draft.rules[at][2 + rng.below(length)] = symbol;
     }
 }

@@ -1,0 +1,91 @@
+/* What the header allows: no bytes, no table and no row may each be lent as (NULL, 0), and one row may be both sides of a join. Prints
+ * nothing where every answer is right; else says which is not, and ends with 1. */
+#include <stdio.h>
+
+#include "ujthanor.h"
+
+/* One template rule, page -> <a></a>, under a schema whose one state is ending and takes any elements: an empty page is valid. */
+static const uint8_t OPEN[] = {1, 1, 1, 0, 16, 0, 1, 0, 20, 0, 1, 0, 24, 0, 1, 0, 0, 2, 0, 32, 0, 0, 0, 0, 0};
+
+/* What a call must not leave in a number: each is set to it before. */
+static const uint64_t UNSET = 99;
+
+static uint64_t table[UJTHANOR_TABLE], row[UJTHANOR_ROW], other[UJTHANOR_ROW];
+static uint64_t number, images;
+static int32_t depth;
+static int wrong;
+
+static void holds(const char *what, int held) {
+    if (!held) {
+        printf("c_calls: not so: %s\n", what);
+        wrong = 1;
+    }
+}
+
+static void unset(void) {
+    number = images = UNSET;
+    depth = (int32_t)UNSET;
+}
+
+static void answered(const char *what, uint32_t answer, uint32_t wanted) {
+    if (answer != wanted || number != 0) {
+        printf("c_calls: %s: answer %u, number %llu, but %u and 0 are right\n", what, answer, (unsigned long long)number, wanted);
+        wrong = 1;
+    }
+    unset();
+}
+
+static void checks(void) {
+    table[0] = UNSET;
+    answered("check, no file", ujthanor_check(NULL, 0, table, UJTHANOR_TABLE, UJTHANOR_BUDGET, &number, &images), UJTHANOR_BAD_FILE);
+    holds("a bad file leaves the table as it was", table[0] == UNSET);
+    answered("check, no table", ujthanor_check(OPEN, sizeof OPEN, NULL, 0, UJTHANOR_BUDGET, &number, &images), UJTHANOR_SHORT_TABLE);
+    uint32_t answer = ujthanor_check(NULL, 0, NULL, 0, 0, &number, &images);
+    holds("no images without a pass", images == 0);
+    answered("check, no file and no table", answer, UJTHANOR_SHORT_TABLE);
+}
+
+static void pages(void) {
+    answered("page, no bytes", ujthanor_page(OPEN, sizeof OPEN, NULL, 0, &number), UJTHANOR_OK);
+    answered("page, no file", ujthanor_page(NULL, 0, OPEN, sizeof OPEN, &number), UJTHANOR_BAD_FILE);
+    answered("page, no file and no bytes", ujthanor_page(NULL, 0, NULL, 0, &number), UJTHANOR_BAD_FILE);
+}
+
+static void fragments(void) {
+    answered("fragment, no row", ujthanor_fragment(OPEN, sizeof OPEN, NULL, 0, NULL, 0, &number), UJTHANOR_SHORT_ROW);
+    answered("fragment, no file", ujthanor_fragment(NULL, 0, NULL, 0, row, UJTHANOR_ROW, &number), UJTHANOR_BAD_FILE);
+    answered("fragment, no bytes", ujthanor_fragment(OPEN, sizeof OPEN, NULL, 0, row, UJTHANOR_ROW, &number), UJTHANOR_OK);
+    holds("the summary of no bytes has no tags and the relation of the empty string", row[0] == 0 && row[3] == 1);
+}
+
+/* Two rows joined into `other`; null is no row. */
+static uint32_t joined(const uint64_t *left, const uint64_t *right) {
+    const size_t left_len = left == NULL ? 0 : UJTHANOR_ROW, right_len = right == NULL ? 0 : UJTHANOR_ROW;
+    return ujthanor_join(OPEN, sizeof OPEN, left, left_len, right, right_len, other, UJTHANOR_ROW, &number);
+}
+
+static void joins(void) {
+    answered("join, no row", ujthanor_join(OPEN, sizeof OPEN, NULL, 0, NULL, 0, NULL, 0, &number), UJTHANOR_SHORT_ROW);
+    answered("join, no file", ujthanor_join(NULL, 0, NULL, 0, NULL, 0, other, UJTHANOR_ROW, &number), UJTHANOR_BAD_FILE);
+    answered("join, no left", joined(NULL, row), UJTHANOR_NO_SUMMARY);
+    answered("join, no right", joined(row, NULL), UJTHANOR_NO_SUMMARY);
+    answered("join, one row twice", joined(row, row), UJTHANOR_OK);
+    holds("no bytes after no bytes are no bytes", other[0] == 0 && other[3] == 1);
+}
+
+static void depths(void) {
+    uint32_t answer = ujthanor_net_depth(OPEN, sizeof OPEN, NULL, 0, &number, &depth);
+    holds("the depth of a refusal is 0", depth == 0);
+    answered("net depth, no row", answer, UJTHANOR_NO_SUMMARY);
+    answered("net depth, no file", ujthanor_net_depth(NULL, 0, row, UJTHANOR_ROW, &number, &depth), UJTHANOR_BAD_FILE);
+}
+
+int main(void) {
+    unset();
+    checks();
+    pages();
+    fragments();
+    joins();
+    depths();
+    return wrong;
+}

@@ -1,0 +1,103 @@
+/* How much stack the calls use: each is made on a thread whose stack is a painted array, and the lowest byte that lost its paint tells.
+ * Prints the most that each call used, and ends with 1 where that is not less than UJTHANOR_STACK. */
+#define _XOPEN_SOURCE 700 /* pthread_attr_setstack */
+#include <pthread.h>
+#include <stdio.h>
+#include <string.h>
+
+#include "ujthanor.h"
+
+enum {
+    ROOM = 1 << 18, /* the thread's stack */
+    OWN = 512,      /* below the measuring function's frame: left unpainted for its own variables */
+    PAINT = 0xA5
+};
+
+static _Alignas(4096) unsigned char stack[ROOM];
+
+/* The README's set: 2 names, 3 nonterminals, 2 states. */
+static const uint8_t K[] = {2, 3, 2, 0,  16, 0, 3, 0, 28, 0, 4, 0, 44, 0, 1, 0, 0, 2, 65, 32, 1, 2, 0,
+                            66, 2, 2, 1, 33, 0, 0, 0, 1, 0, 0, 1, 0, 0, 1, 1, 1, 1, 0, 1, 1, 1};
+
+/* Every count at its limit: 256 template rules, 128 schema rules, 8 ending states. */
+static uint8_t full[1560];
+
+static uint64_t table[UJTHANOR_TABLE], deep[UJTHANOR_ROW], shut[UJTHANOR_ROW], row[UJTHANOR_ROW], number, images;
+static int32_t depth;
+
+static void check_k(void) { ujthanor_check(K, sizeof K, table, UJTHANOR_TABLE, UJTHANOR_BUDGET, &number, &images); }
+
+static void check_full(void) { ujthanor_check(full, sizeof full, table, UJTHANOR_TABLE, UJTHANOR_BUDGET, &number, &images); }
+
+/* Sixteen starts and their ends, so that every place of a summary is used. */
+static const uint8_t TAGS[32] = {[16] = 32, 32, 32, 32, 32, 32, 32, 32, 32, 32, 32, 32, 32, 32, 32, 32};
+
+static void page(void) { ujthanor_page(full, sizeof full, TAGS, sizeof TAGS, &number); }
+
+static void starts(void) { ujthanor_fragment(full, sizeof full, TAGS, 16, deep, UJTHANOR_ROW, &number); }
+
+static void ends(void) { ujthanor_fragment(full, sizeof full, TAGS + 16, 16, shut, UJTHANOR_ROW, &number); }
+
+static void join(void) { ujthanor_join(full, sizeof full, deep, UJTHANOR_ROW, shut, UJTHANOR_ROW, row, UJTHANOR_ROW, &number); }
+
+static void net_depth(void) { ujthanor_net_depth(full, sizeof full, deep, UJTHANOR_ROW, &number, &depth); }
+
+static struct {
+    const char *name;
+    void (*call)(void);
+    size_t used;
+} calls[] = {{"check", check_k, 0}, {"check of the fullest file", check_full, 0}, {"page", page, 0}, {"fragment", starts, 0},
+             {"fragment of ends", ends, 0}, {"join", join, 0}, {"net depth", net_depth, 0}};
+
+enum { CALLS = sizeof calls / sizeof *calls };
+
+/* How far below this function's frame the call went. */
+__attribute__((noinline)) static size_t used(void (*call)(void)) {
+    unsigned char *top = __builtin_frame_address(0);
+    for (volatile unsigned char *p = stack; p < top - OWN; p++) *p = PAINT;
+    call();
+    volatile unsigned char *low = stack;
+    while (*low == PAINT) low++;
+    return (size_t)(top - low);
+}
+
+static void *measured(void *none) {
+    for (int i = 0; i < CALLS; i++) calls[i].used = used(calls[i].call);
+    return none;
+}
+
+/* Each of 64 nonterminals gives an element, itself twice, the next, and nothing; each of 8 states takes 16 names and leads to itself. */
+static void fill(void) {
+    const uint8_t head[16] = {32, 64, 8, 0, 16, 0, 0, 1, 16, 4, 128, 0, 16, 6, 8, 0};
+    memcpy(full, head, sizeof head);
+    uint8_t *at = full + sizeof head;
+    for (uint8_t n = 0; n < 64; n++) {
+        const uint8_t next = n < 63 ? 65 + n : 64, own = 64 + n, name = n % 16;
+        const uint8_t rules[4][4] = {{n, 0, 255, 255}, {n, 1, next, 255}, {n, 2, name, 32 + name}, {n, 2, own, own}};
+        memcpy(at, rules, sizeof rules);
+        at += sizeof rules;
+    }
+    for (int i = 0; i < 128; i++) {
+        const uint8_t state = (uint8_t)(i / 16), rule[4] = {state, i % 16, state, state};
+        memcpy(at, rule, sizeof rule);
+        at += sizeof rule;
+    }
+    for (uint8_t q = 0; q < 8; q++) *at++ = q;
+}
+
+int main(void) {
+    fill();
+    pthread_attr_t attr;
+    pthread_t thread;
+    if (pthread_attr_init(&attr) != 0 || pthread_attr_setstack(&attr, stack, sizeof stack) != 0 ||
+        pthread_create(&thread, &attr, measured, NULL) != 0 || pthread_join(thread, NULL) != 0) {
+        printf("c_stack: no thread\n");
+        return 1;
+    }
+    int wrong = 0;
+    for (int i = 0; i < CALLS; i++) {
+        printf("c_stack: %s: %zu bytes\n", calls[i].name, calls[i].used);
+        wrong |= calls[i].used >= UJTHANOR_STACK;
+    }
+    return wrong;
+}
