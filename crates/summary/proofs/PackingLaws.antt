@@ -138,7 +138,3 @@ module _ (A q : ℕ) (s : Summary) where
 -- the form that a summary holds
 pub holds-packs : (s : Summary) → Holds s → Packs s (formOf s) (lastOf s)
 holds-packs s h = record { holds = h; form-is = refl; last-is = refl }
-
--- a struct packs its own form
-pub packs-own : {s : Summary} {t : Stack Piece} {c : Piece} → Packs s t c → Packs s (formOf s) (lastOf s)
-packs-own {s} p = holds-packs s (p .holds)
