@@ -1,4 +1,6 @@
 pub mod Sides
+pub mod NumberLaws
+pub mod ReplyNumbers
 pub mod RowCountLaws
 pub mod WorktableLaws
 pub mod LentRowLaws
