@@ -12,6 +12,7 @@ pub mod ValidReadLaws
 pub mod ExactLaws
 pub mod ThirdLaws
 pub mod SecondLaws
+pub mod CallLaws
 pub mod Findings
 pub mod Packings
 pub mod Replies

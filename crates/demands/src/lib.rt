@@ -73,12 +73,7 @@ pub fn join_from_c(
     ujthanor::ujthanor_join(file, left, right, row, number)
 }
 
-pub fn net_depth_from_c(
-    file: &[u8],
-    row: &[u64],
-    number: &mut u64,
-    depth: &mut i32,
-) -> u32
+pub fn net_depth_from_c(file: &[u8], row: &[u64], number: &mut u64, depth: &mut i32) -> u32
     ensures { λ r. ⌜ DepthFromC (now (file .entry)) (now (row .entry)) r (now (number .exit)) (now (depth .exit)) ⌝ }
 {
     ujthanor::ujthanor_net_depth(file, row, number, depth)
