@@ -8,8 +8,10 @@ pub mod ProducedLaws
 pub mod PassedLaws
 pub mod ValidReadLaws
 pub mod ExactLaws
-pub mod ThirdLaws
 pub mod SecondLaws
+pub mod RelationLaws
+pub mod NetDepthLaws
+pub mod ThirdLaws
 pub mod Findings
 pub mod Packings
 pub mod Replies
