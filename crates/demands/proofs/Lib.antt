@@ -11,6 +11,7 @@ pub mod ExactLaws
 pub mod SecondLaws
 pub mod RelationLaws
 pub mod NetDepthLaws
+pub mod RowMeaningLaws
 pub mod ThirdLaws
 pub mod Findings
 pub mod Packings
