@@ -10,8 +10,11 @@ pub mod ProducedLaws
 pub mod PassedLaws
 pub mod ValidReadLaws
 pub mod ExactLaws
-pub mod ThirdLaws
 pub mod SecondLaws
+pub mod RelationLaws
+pub mod NetDepthLaws
+pub mod RowMeaningLaws
+pub mod ThirdLaws
 pub mod CallLaws
 pub mod Findings
 pub mod Packings
