@@ -2,9 +2,8 @@
 -- or Rust has the numbers of the reply that it hands on, and a lent row stands for one struct. Assumes nothing.
 use mathlib.Core.Path.{_≡_, subst}
 use mathlib.Core.List.{List}
-use Prim.Native.Nat.{ℕ, _≤_}
+use Prim.Native.Nat.{ℕ}
 use lib.IntN.{ℤ}
-use lib.ListN.{length}
 use Rattle.form.specs.declared.Summary.{Summary}
 use Rattle.summary.specs.Fragments.{FragmentSays}
 use Rattle.summary.specs.Joins.{JoinSays, DepthSays}
@@ -14,13 +13,12 @@ use Rattle.summary.specs.declared.JoinReply.{JoinReply}
 use Rattle.summary.specs.declared.DepthReply.{DepthReply}
 use Rattle.page.specs.Pages.{PageSays, answer as pageAnswer, number as pageNumber}
 use Rattle.page.specs.declared.PageReply.{PageReply}
-use Rattle.worktable.specs.Packed.{rowWidth}
 use Rattle.rounds.specs.Checks.{CheckSays}
 use Rattle.rounds.specs.Answers.{answer, number, images}
 use Rattle.rounds.specs.declared.CheckReply.{CheckReply}
 use Rattle.ujthanor.specs.LentRows.{written, StandsFor}
 use Rattle.ujthanor.specs.Calls.{CheckCalled, PageCalled, FragmentWritten, FragmentCalled, JoinWritten, JoinCalled, DepthCalled}
-use Rattle.ujthanor.proofs.UniqueLaws.{stands-unique}
+use Rattle.ujthanor.proofs.UniqueLaws.{stands-some, stands-unique}
 use Rattle.demands.specs.Calls.{CheckMeets, PageMeets, FragmentMeets, JoinMeets, DepthMeets, FragmentFromC, JoinFromC, DepthFromC, Demands}
 use Rattle.demands.proofs.FirstLaws.{page-order, fragment-order, fragment-refused, join-order, join-refused, depth-order, check-order}
 use Rattle.demands.proofs.WorktableLaws.{worktable}
@@ -119,4 +117,11 @@ depth-from-c f row a n z call s is =
 -- ---- what is said of no single call
 
 pub demands : Demands
-demands = record { relations-mean = relations-mean; depths-add = depths-add; larger-budget = larger-budget }
+demands =
+    record {
+      rows-stand = stands-some;
+      rows-stand-once = stands-unique;
+      relations-mean = relations-mean;
+      depths-add = depths-add;
+      larger-budget = larger-budget;
+    }

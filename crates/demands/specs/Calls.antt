@@ -2,10 +2,10 @@
 -- src/lib.rt is one of these, and its body is the call. A call from C or Rust has the answers of the call that it hands on, and one more: 17,
 -- for a row that is too short (specs/First.antt, `LentRow`); then nothing was read, and no demand but that one speaks.
 use mathlib.Core.Path.{_≡_}
-use mathlib.Core.List.{List, _++_}
+use mathlib.Core.List.{List}
 use Prim.Native.Nat.{ℕ, _≤_}
 use lib.IntN.{ℤ, _+ℤ_}
-use lib.ListN.{length, drop}
+use lib.ListN.{length}
 use Rattle.form.specs.declared.Summary.{Summary}
 use Rattle.summary.specs.Packing.{zeros}
 use Rattle.summary.specs.Joins.{JoinSays, DepthSays}
@@ -60,6 +60,9 @@ DepthFromC f row a n z = (s : Summary) → StandsFor row s → DepthMeets f s a 
 -- ---- what is said of no single call
 
 pub record Demands : Type 0 where
+  -- what a call from C or Rust says of the struct that a lent row stands for is said of one: every row stands for some struct, and for no other
+  pub rows-stand : (row : List ℕ) → (s : Summary) × StandsFor row s
+  pub rows-stand-once : (row : List ℕ) (s s′ : Summary) → StandsFor row s → StandsFor row s′ → s ≡ s′
   -- demand 2: every relation of a word's summary is that of its factor, and the net depth of a joined summary is the sum
   pub relations-mean : RelationsMean
   pub depths-add : (f : List ℕ) (left right : Summary) (j : JoinReply) (d e g : DepthReply) → JoinSays f left right j

@@ -1,6 +1,5 @@
 // Each public call with the demands as its contract; the body is the call. None has a `requires`, so each ends and answers on any input.
 // First the calls in Rattle, then those that C and Rust link.
-ghost use mathlib.Core.Path.{_≡_};
 ghost use Rattle.summary.specs.Answers.{fragmentAnswer, fragmentNumber, joinAnswer, joinNumber, depthAnswer, depthNumber, netDepth};
 ghost use Rattle.page.specs.Pages as page;
 ghost use Rattle.rounds.specs.Answers as check;

@@ -1,7 +1,7 @@
 -- The test of a struct, place by place, says exactly that it is a summary (specs/Packing.antt). A place in use passes by the choice's
 -- first arm, another by its second; behind the arrays' ends every place is 0. A piece that the test lets through is small, since it adds
 -- no bit to a small number. And a struct that holds a form packs it. Assumes nothing.
-use mathlib.Core.Path.{_≡_, refl, sym, ap, _∙_}
+use mathlib.Core.Path.{_≡_, refl, sym, _∙_}
 use mathlib.Core.Bool.{Bool, true, false, false≢true, not}
 use mathlib.Core.List.{List}
 use mathlib.Core.Logic.{_↔_}
@@ -10,10 +10,8 @@ use native.Mathlib.Decide.{decLt, decLe}
 use native.Mathlib.Omega.{arith}
 use lib.ListN.{length, getD, List·getD-eq-default}
 use borrow.Author.Tests.{lt-ltb, le-ltb, le-leb, lt-leb, ltb-true, eqb-true, not-true, not-false}
-use Rattle.words.specs.Reduced.{Stack}
 use Rattle.hedge.specs.Schema.{mostStates}
-use Rattle.pieces.specs.declared.Piece.{Piece}
-use Rattle.pieces.specs.Pieces.{mostTags, mostPieces, piecesLong, piece, zeroPiece, pieceAt, PieceWithin, fitsIn}
+use Rattle.pieces.specs.Pieces.{mostTags, mostPieces, piecesLong, zeroPiece, pieceAt, PieceWithin}
 use Rattle.pieces.proofs.PieceLaws.{piece-past, fits-within, none-is}
 use Rattle.form.specs.Held.{tagCount, formOf, lastOf, Holds}
 use Rattle.form.specs.declared.Summary.{Summary}
