@@ -1,155 +1,156 @@
--- Demand 1 (specs/First.antt). Each promise says of its reply why it was due, and what is due excludes what another reply would say: a
--- file is sound or bad, a table long or short, a budget in range or not. So each equivalence holds on both sides or on neither, by cases on
--- the reply. What a check leaves is in WorktableLaws, what a call leaves in a lent row in LentRowLaws. Assumes nothing.
+-- Demand 1 (specs/First.antt) from the promises: an answer is given exactly where the reply that it names is promised
+-- (proofs/NumberLaws.antt, proofs/ReplyNumbers.antt), so each field is that promise in the demand's words. What a check leaves is in
+-- WorktableLaws, what a call leaves in a lent row in LentRowLaws. Assumes nothing.
 use mathlib.Core.Path.{_≡_, refl}
 use mathlib.Core.List.{List}
-use mathlib.Core.Logic.{_↔_}
+use mathlib.Core.Logic.{_↔_, ⊎-elim}
 use Prim.Native.Nat.{ℕ, _≤_}
 use native.Mathlib.Omega.{arith}
-use lib.ListN.{length}
-use Rattle.template.specs.Order.{IsSound, reading}
+use lib.IntN.{pos}
+use Rattle.template.specs.Order.{reading}
 use Rattle.template.specs.declared.Reading.the-variants.{Bad}
-use Rattle.summary.specs.Fragments.{FragmentAnswers}
-use Rattle.summary.specs.Joins.{SummaryUnder, JoinAnswers, DepthSays}
-use Rattle.summary.specs.Answers.{fragmentAnswer, joinAnswer, depthAnswer}
 use Rattle.form.specs.declared.Summary.{Summary}
+use Rattle.summary.specs.Packing.{zeros}
+use Rattle.summary.specs.Fragments.{FragmentAnswers, FragmentSays}
+use Rattle.summary.specs.Joins.{JoinAnswers, JoinSays, DepthSays}
+use Rattle.summary.specs.Answers.{fragmentAnswer, fragmentNumber, joinAnswer, joinNumber, depthAnswer, depthNumber, netDepth}
 use Rattle.summary.specs.declared.FragmentAnswer.{FragmentAnswer}
-use Rattle.summary.specs.declared.FragmentAnswer.the-variants as fragment
+use Rattle.summary.specs.declared.FragmentReply.{FragmentReply}
 use Rattle.summary.specs.declared.JoinAnswer.{JoinAnswer}
-use Rattle.summary.specs.declared.JoinAnswer.the-variants as joined
+use Rattle.summary.specs.declared.JoinReply.{JoinReply}
 use Rattle.summary.specs.declared.DepthReply.{DepthReply}
 use Rattle.summary.specs.declared.DepthReply.the-variants as depth
-use Rattle.template.proofs.ShapeLaws.{sound-not-bad}
-use Rattle.page.specs.Pages.{PageSays, answer as pageAnswer}
+use Rattle.page.specs.Pages.{PageSays, answer as pageAnswer, number as pageNumber}
 use Rattle.page.specs.declared.PageReply.{PageReply}
-use Rattle.page.specs.declared.PageReply.the-variants as page
-use Rattle.worktable.specs.Packed.{tableLong}
-use Rattle.rounds.specs.Checks.{HasPage, mostRounds, Lent, CheckSays}
-use Rattle.rounds.specs.Answers.{answer}
+use Rattle.rounds.specs.Checks.{Lent, CheckSays}
+use Rattle.rounds.specs.Answers.{answer, number, images}
 use Rattle.rounds.specs.declared.CheckReply.{CheckReply}
-use Rattle.rounds.specs.declared.CheckReply.the-variants as check
-use Rattle.demands.specs.First.{CheckOrder, FileFirst, FirstDemand}
-use Rattle.demands.proofs.Sides.{both, neither}
-use Rattle.demands.proofs.WorktableLaws.{worktable}
-use Rattle.demands.proofs.LentRowLaws.{fragment-row, join-row}
+use Rattle.ujthanor.proofs.CallLaws.{fragment-made, join-made}
+use Rattle.demands.specs.First.{CheckOrder, PageOrder, FragmentOrder, JoinOrder, DepthOrder}
+use Rattle.demands.proofs.Sides.{in-words}
+use Rattle.demands.proofs.NumberLaws.{placed, bare, numberless, bad-exactly, bad-place, file-first}
+use Rattle.demands.proofs.ReplyNumbers.{pageReplies, page-numbered, fragmentReplies, fragment-numbered, depthReplies, depth-numbered}
+use Rattle.demands.proofs.ReplyNumbers.{joinReplies, join-numbered, join-numberless, depth-numberless, checkReplies, check-numbered}
 
--- ---- the file first
+-- ---- pages
 
-module _ (f : List ℕ) where
-  bad-first : (p : ℕ) → reading f ≡ Bad p → FileFirst f 7
-  bad-first p e = both refl (λ sound. sound-not-bad f p sound e)
-
-  sound-first : (a : ℕ) → (a ≡ 7 → ⊥) → IsSound f → FileFirst f a
-  sound-first a other sound = neither other (λ bad. bad sound)
-
-  page-first : (bytes : List ℕ) (r : PageReply) → PageSays f bytes r → FileFirst f (pageAnswer r)
-  page-first bytes page.Valid (sound, _, _) = sound-first 0 (λ e. omega (arith, e)) sound
-  page-first bytes (page.BadFile p) e = bad-first p e
-  page-first bytes (page.NotATag p) (sound, _) = sound-first 10 (λ e. omega (arith, e)) sound
-  page-first bytes (page.Mismatch p) (sound, _) = sound-first 11 (λ e. omega (arith, e)) sound
-  page-first bytes (page.TooDeep p) (sound, _) = sound-first 12 (λ e. omega (arith, e)) sound
-  page-first bytes page.Unmatched (sound, _, _) = sound-first 13 (λ e. omega (arith, e)) sound
-  page-first bytes page.NotDerived (sound, _, _) = sound-first 14 (λ e. omega (arith, e)) sound
-
-  fragment-first : (bytes : List ℕ) (a : FragmentAnswer) (s : Summary) → FragmentAnswers f bytes a s → FileFirst f (fragmentAnswer a)
-  fragment-first bytes fragment.Summarised s (sound, _) = sound-first 0 (λ e. omega (arith, e)) sound
-  fragment-first bytes (fragment.BadFile p) s (e, _) = bad-first p e
-  fragment-first bytes (fragment.NotATag p) s (sound, _, _) = sound-first 10 (λ e. omega (arith, e)) sound
-  fragment-first bytes (fragment.Mismatch p) s (sound, _, _) = sound-first 11 (λ e. omega (arith, e)) sound
-  fragment-first bytes (fragment.TooDeep p) s (sound, _, _) = sound-first 12 (λ e. omega (arith, e)) sound
-
-  -- and then whether the structs are summaries: `Are` says that they are
-  module _ (Are : Type 0) where
-    abbrev Structs : ℕ → Type 0
-    Structs a = FileFirst f a × ((a ≡ 15) ↔ (IsSound f × (Are → ⊥)))
-
-    bad-structs : (p : ℕ) → reading f ≡ Bad p → Structs 7
-    bad-structs p e = (bad-first p e, neither (λ d. omega (arith, d)) (λ (sound, none). sound-not-bad f p sound e))
-
-    no-summary : IsSound f → (Are → ⊥) → Structs 15
-    no-summary sound none = (sound-first 15 (λ e. omega (arith, e)) sound, both refl (sound, none))
-
-    summaries : (a : ℕ) → (a ≡ 7 → ⊥) → (a ≡ 15 → ⊥) → IsSound f → Are → Structs a
-    summaries a seven fifteen sound are = (sound-first a seven sound, neither fifteen (λ (_, none). none are))
-
-  join-first : (left right : Summary) (a : JoinAnswer) (s : Summary) → JoinAnswers f left right a s
-      → Structs (SummaryUnder f left × SummaryUnder f right) (joinAnswer a)
-  join-first left right joined.Joined s ((sound, l, r), _) =
-      summaries _ 0 (λ e. omega (arith, e)) (λ e. omega (arith, e)) sound (l, r)
-  join-first left right (joined.BadFile p) s (e, _) = bad-structs _ p e
-  join-first left right joined.NoSummary s (sound, none, _) = no-summary _ sound (λ (l, r). none l r)
-  join-first left right joined.Mismatch s ((sound, l, r), _, _) =
-      summaries _ 11 (λ e. omega (arith, e)) (λ e. omega (arith, e)) sound (l, r)
-  join-first left right joined.TooDeep s ((sound, l, r), _, _) =
-      summaries _ 12 (λ e. omega (arith, e)) (λ e. omega (arith, e)) sound (l, r)
-
-  depth-first : (s : Summary) (r : DepthReply) → DepthSays f s r → Structs (SummaryUnder f s) (depthAnswer r)
-  depth-first s (depth.Net z) (sound, is, _) = summaries _ 0 (λ e. omega (arith, e)) (λ e. omega (arith, e)) sound is
-  depth-first s (depth.BadFile p) e = bad-structs _ p e
-  depth-first s depth.NoSummary (sound, none) = no-summary _ sound none
-
--- ---- the order of a check
-
-module _ (f t : List ℕ) (budget : ℕ) where
-  module _ (r : CheckReply) (lent : Lent f t budget) where
-    -- a table that is long enough and a budget in range, and the two answers that are left to give
-    lent-order : (answer r ≡ 9 → ⊥) → (answer r ≡ 8 → ⊥)
-        → (answer r ≡ 7) ↔ ((tableLong ≤ length t) × (1 ≤ budget) × (budget ≤ mostRounds) × (IsSound f → ⊥))
-        → (answer r ≡ 6) ↔ ((tableLong ≤ length t) × (1 ≤ budget) × (budget ≤ mostRounds) × IsSound f × (HasPage f → ⊥))
-        → CheckOrder f t budget r
-    lent-order nine eight file page =
-        let (room, low, high) = lent in
-        record {
-          short-first = neither nine (λ l. omega (arith, room, l));
-          then-budget = neither eight (λ (_, none). none (low, high));
-          then-file = file;
-          then-page = page;
-        }
-
-    decided-order : IsSound f → HasPage f → answer r ≤ 5 → CheckOrder f t budget r
-    decided-order sound page few =
-        lent-order (λ e. omega (arith, e, few)) (λ e. omega (arith, e, few))
-        (neither (λ e. omega (arith, e, few)) (λ (_, _, _, bad). bad sound))
-        (neither (λ e. omega (arith, e, few)) (λ (_, _, _, _, none). none page))
-
-  check-order : (r : CheckReply) (u : List ℕ) → CheckSays f t budget r u → CheckOrder f t budget r
-  check-order (check.Passed r n) u ((lent, sound, page, _), _) = decided-order (check.Passed r n) lent sound page (omega arith)
-  check-order (check.Mismatch r) u ((lent, sound, page, _), _) = decided-order (check.Mismatch r) lent sound page (omega arith)
-  check-order (check.Invalid r) u ((lent, sound, page, _), _) = decided-order (check.Invalid r) lent sound page (omega arith)
-  check-order (check.TooDeep r) u ((lent, sound, page, _), _) = decided-order (check.TooDeep r) lent sound page (omega arith)
-  check-order (check.Crowded r) u ((lent, sound, page, _), _) = decided-order (check.Crowded r) lent sound page (omega arith)
-  check-order (check.OutOfRounds b) u (_, (lent, sound, page, _), _) =
-      decided-order (check.OutOfRounds b) lent sound page (omega arith)
-  check-order check.NoPage u ((room, low, high), sound, none, _) =
-      lent-order check.NoPage (room, low, high) (λ e. omega (arith, e)) (λ e. omega (arith, e))
-      (neither (λ e. omega (arith, e)) (λ (_, _, _, bad). bad sound)) (both refl (room, low, high, sound, none))
-  check-order (check.BadFile p) u ((room, low, high), e, _) =
-      let bad : IsSound f → ⊥ = λ sound. sound-not-bad f p sound e in
-      lent-order (check.BadFile p) (room, low, high) (λ e. omega (arith, e)) (λ e. omega (arith, e))
-      (both refl (room, low, high, bad)) (neither (λ e. omega (arith, e)) (λ (_, _, _, sound, _). bad sound))
-  check-order check.BadBudget u (room, none, _) =
+module _ (f bytes : List ℕ) (r : PageReply) (says : PageSays f bytes r) where
+  pub page-order : PageOrder f bytes (pageAnswer r) (pageNumber r)
+  page-order =
+      let all = pageReplies f bytes in
       record {
-        short-first = neither (λ e. omega (arith, e)) (λ l. omega (arith, room, l));
-        then-budget = both refl (room, none);
-        then-file = neither (λ e. omega (arith, e)) (λ (_, low, high, _). none (low, high));
-        then-page = neither (λ e. omega (arith, e)) (λ (_, low, high, _, _). none (low, high));
-      }
-  check-order check.ShortTable u (short, _) =
-      record {
-        short-first = both refl short;
-        then-budget = neither (λ e. omega (arith, e)) (λ (room, _). omega (arith, room, short));
-        then-file = neither (λ e. omega (arith, e)) (λ (room, _, _, _). omega (arith, room, short));
-        then-page = neither (λ e. omega (arith, e)) (λ (room, _, _, _, _). omega (arith, room, short));
+        numbered = page-numbered r;
+        read-order =
+            record {
+              file-first = file-first f (pageAnswer r) (pageNumber r) (λ p. placed all r says 7 p refl refl);
+              not-a-tag = λ p. placed all r says 10 p refl refl;
+              mismatched = λ p. placed all r says 11 p refl refl;
+              too-deep = λ p. placed all r says 12 p refl refl;
+            };
+        unmatched = bare all r says 13 refl (λ n. refl);
+        not-derived = bare all r says 14 refl (λ n. refl);
+        no-number =
+            ⊎-elim (numberless all r says 0 (λ n. refl))
+            (⊎-elim (numberless all r says 13 (λ n. refl)) (numberless all r says 14 (λ n. refl)));
       }
 
-pub first-demand : FirstDemand
-first-demand = record {
-  check-order = λ f t budget r u says. check-order f t budget r u says;
-  worktable = λ f t budget r u says. worktable f t u budget r says;
-  page-file-first = λ f bytes r says. page-first f bytes r says;
-  fragment-file-first = λ f bytes r says. fragment-first f bytes (r .answer) (r .summary) says;
-  join-file-first = λ f left right r says. join-first f left right (r .answer) (r .summary) says;
-  depth-file-first = λ f s r says. depth-first f s r says;
-  fragment-row = λ f bytes row a n row′ called. fragment-row f bytes row a n row′ called;
-  join-row = λ f left right row a n row′ called. join-row f left right row a n row′ called;
-}
+-- ---- fragments and joins: a refusal comes with a summary of zeros
+
+with-zeros : {A B C : Type 0} → A ↔ ((s : Summary) × (B × C × (s ≡ zeros))) → A ↔ (B × C)
+with-zeros h = in-words h (λ (s, (b, c, e)). (b, c)) (λ (b, c). (zeros, (b, c, refl)))
+
+bad-with-zeros : {A B : Type 0} → A ↔ ((s : Summary) × (B × (s ≡ zeros))) → A ↔ B
+bad-with-zeros h = in-words h (λ (s, (b, e)). b) (λ b. (zeros, (b, refl)))
+
+module _ (f bytes : List ℕ) (a : FragmentAnswer) (s : Summary) (says : FragmentAnswers f bytes a s) where
+  answered-order : FragmentOrder f bytes (fragmentAnswer a) (fragmentNumber a)
+  answered-order =
+      let all = fragmentReplies f bytes in
+      record {
+        numbered = fragment-numbered a;
+        read-order =
+            record {
+              file-first =
+                  file-first f (fragmentAnswer a) (fragmentNumber a) (λ p. bad-with-zeros (placed all a (s, says) 7 p refl refl));
+              not-a-tag = λ p. with-zeros (placed all a (s, says) 10 p refl refl);
+              mismatched = λ p. with-zeros (placed all a (s, says) 11 p refl refl);
+              too-deep = λ p. with-zeros (placed all a (s, says) 12 p refl refl);
+            };
+        no-number = numberless all a (s, says) 0 (λ n. refl);
+      }
+
+module _ (f bytes : List ℕ) (r : FragmentReply) (says : FragmentSays f bytes r) where
+  pub fragment-order : FragmentOrder f bytes (fragmentAnswer (r .answer)) (fragmentNumber (r .answer))
+  fragment-order = answered-order f bytes (r .answer) (r .summary) says
+
+  pub fragment-refused : 1 ≤ fragmentAnswer (r .answer) → r .summary ≡ zeros
+  fragment-refused h = fragment-made f bytes r says .zero h
+
+module _ (f : List ℕ) (left right : Summary) (a : JoinAnswer) (s : Summary) (says : JoinAnswers f left right a s) where
+  joined-order : JoinOrder f left right (joinAnswer a) (joinNumber a)
+  joined-order =
+      let all = joinReplies f left right in
+      record {
+        numbered = join-numbered a;
+        file-first = file-first f (joinAnswer a) (joinNumber a) (λ p. bad-with-zeros (placed all a (s, says) 7 p refl refl));
+        no-summary =
+            in-words (with-zeros (bare all a (s, says) 15 refl (λ n. refl)))
+            (λ (sound, none). (sound, λ (l, r). none l r)) (λ (sound, none). (sound, λ l r. none (l, r)));
+        mismatched = with-zeros (bare all a (s, says) 11 refl (λ n. refl));
+        too-deep = with-zeros (bare all a (s, says) 12 refl (λ n. refl));
+        no-number = join-numberless a;
+      }
+
+module _ (f : List ℕ) (left right : Summary) (r : JoinReply) (says : JoinSays f left right r) where
+  pub join-order : JoinOrder f left right (joinAnswer (r .answer)) (joinNumber (r .answer))
+  join-order = joined-order f left right (r .answer) (r .summary) says
+
+  pub join-refused : 1 ≤ joinAnswer (r .answer) → r .summary ≡ zeros
+  join-refused h = join-made f left right r says .zero h
+
+-- ---- net depths
+
+depthless : (r : DepthReply) → 1 ≤ depthAnswer r → netDepth r ≡ pos 0
+depthless (depth.Net z) h = absurd (omega (arith, h))
+depthless (depth.BadFile p) h = refl
+depthless depth.NoSummary h = refl
+
+module _ (f : List ℕ) (s : Summary) (r : DepthReply) (says : DepthSays f s r) where
+  pub depth-order : DepthOrder f s (depthAnswer r) (depthNumber r) (netDepth r)
+  depth-order =
+      let all = depthReplies f s in
+      record {
+        numbered = depth-numbered r;
+        file-first = file-first f (depthAnswer r) (depthNumber r) (λ p. placed all r says 7 p refl refl);
+        no-summary = bare all r says 15 refl (λ n. refl);
+        no-number = depth-numberless r;
+        no-depth = depthless r;
+      }
+
+-- ---- checks: a refusal leaves the worktable as it was
+
+module _ (f t t′ : List ℕ) (budget : ℕ) (r : CheckReply) (says : CheckSays f t budget r t′) where
+  check-bad : (p : ℕ) → ((answer r ≡ 7) × (number r ≡ p)) ↔ (Lent f t budget × (reading f ≡ Bad p))
+  check-bad p =
+      in-words (placed (checkReplies f t budget) r (t′, says) 7 p refl refl)
+      (λ (u, (lent, bad, e)). (lent, bad)) (λ (lent, bad). (t, (lent, bad, refl)))
+
+  pub check-order : CheckOrder f t budget (answer r) (number r) (images r)
+  check-order =
+      let all = checkReplies f t budget in
+      record {
+        numbered = check-numbered r .0;
+        short-first = in-words (bare all r (t′, says) 9 refl (λ n. refl)) (λ (u, (short, e)). short) (λ short. (t, (short, refl)));
+        then-budget =
+            in-words (bare all r (t′, says) 8 refl (λ n. refl))
+            (λ (u, (room, none, e)). (room, none)) (λ (room, none). (t, (room, none, refl)));
+        then-file = bad-exactly f (Lent f t budget) (answer r) (number r) check-bad;
+        then-page =
+            in-words (bare all r (t′, says) 6 refl (λ n. refl))
+            (λ (u, (lent, sound, none, e)). (lent, sound, none)) (λ (lent, sound, none). (t, (lent, sound, none, refl)));
+        file-place = bad-place f (Lent f t budget) (answer r) (number r) check-bad;
+        no-number =
+            ⊎-elim (numberless all r (t′, says) 6 (λ n. refl))
+            (⊎-elim (numberless all r (t′, says) 8 (λ n. refl)) (numberless all r (t′, says) 9 (λ n. refl)));
+        no-images = check-numbered r .1;
+      }

@@ -29,18 +29,18 @@ row-long a s made = packed-length 0 s (made .long)
 
 -- ---- the lent row
 
-module _ (row : List ℕ) (a : ℕ) (row′ : List ℕ) where
-  short-left : (n : ℕ) → length row < rowWidth → ShortRow row a n row′ → LentRow row a row′
-  short-left n short call =
+module _ (row : List ℕ) (a n : ℕ) (row′ : List ℕ) where
+  short-left : length row < rowWidth → ShortRow row a n row′ → LentRow row a n row′
+  short-left short call =
       record {
         short-first = both (call .answer-is) short;
-        short-unchanged = λ _. call .unchanged;
+        short-unchanged = λ _. (call .number-is, call .unchanged);
         refused-zero = λ _ few. absurd (omega (arith, few, call .answer-is));
         rest-unchanged = ap (drop rowWidth) (call .unchanged);
         same-length = ap length (call .unchanged);
       }
 
-  written-left : (c : ℕ) (s : Summary) → rowWidth ≤ length row → Made c s → a ≡ c → row′ ≡ written row s → LentRow row a row′
+  written-left : (c : ℕ) (s : Summary) → rowWidth ≤ length row → Made c s → a ≡ c → row′ ≡ written row s → LentRow row a n row′
   written-left c s room made e put =
       let low = made .low in
       record {
@@ -54,27 +54,25 @@ module _ (row : List ℕ) (a : ℕ) (row′ : List ℕ) where
       }
 
   -- short or long enough
-  by-length : (length row < rowWidth → LentRow row a row′) → (rowWidth ≤ length row → LentRow row a row′) → LentRow row a row′
+  by-length : (length row < rowWidth → ShortRow row a n row′) → (rowWidth ≤ length row → LentRow row a n row′) → LentRow row a n row′
   by-length short long = at (decLt (length row) rowWidth)
     where
-      at : Dec (length row < rowWidth) → LentRow row a row′
-      at (yes l) = short l
+      at : Dec (length row < rowWidth) → LentRow row a n row′
+      at (yes l) = short-left l (short l)
       at (no l) = long (omega (arith, l))
 
-pub fragment-row : (f bytes row : List ℕ) (a n : ℕ) (row′ : List ℕ) → FragmentCalled f bytes row a n row′ → LentRow row a row′
-fragment-row f bytes row a n row′ call =
-    by-length row a row′ (λ l. short-left row a row′ n l (call .short-row l)) (λ l. long l (call .else-written l))
+pub fragment-row : (f bytes row : List ℕ) (a n : ℕ) (row′ : List ℕ) → FragmentCalled f bytes row a n row′ → LentRow row a n row′
+fragment-row f bytes row a n row′ call = by-length row a n row′ (call .short-row) (λ l. long l (call .else-written l))
   where
-    long : rowWidth ≤ length row → FragmentWritten f bytes row a n row′ → LentRow row a row′
+    long : rowWidth ≤ length row → FragmentWritten f bytes row a n row′ → LentRow row a n row′
     long l w =
-        written-left row a row′ (fragmentAnswer (w .reply .answer)) (w .reply .summary) l
+        written-left row a n row′ (fragmentAnswer (w .reply .answer)) (w .reply .summary) l
         (fragment-made f bytes (w .reply) (w .says)) (w .answer-is) (w .row-is)
 
-pub join-row : (f left right row : List ℕ) (a n : ℕ) (row′ : List ℕ) → JoinCalled f left right row a n row′ → LentRow row a row′
-join-row f left right row a n row′ call =
-    by-length row a row′ (λ l. short-left row a row′ n l (call .short-row l)) (λ l. long l (call .else-written l))
+pub join-row : (f left right row : List ℕ) (a n : ℕ) (row′ : List ℕ) → JoinCalled f left right row a n row′ → LentRow row a n row′
+join-row f left right row a n row′ call = by-length row a n row′ (call .short-row) (λ l. long l (call .else-written l))
   where
-    long : rowWidth ≤ length row → JoinWritten f left right row a n row′ → LentRow row a row′
+    long : rowWidth ≤ length row → JoinWritten f left right row a n row′ → LentRow row a n row′
     long l w =
-        written-left row a row′ (joinAnswer (w .reply .answer)) (w .reply .summary) l
+        written-left row a n row′ (joinAnswer (w .reply .answer)) (w .reply .summary) l
         (join-made f (w .first) (w .second) (w .reply) (w .says)) (w .answer-is) (w .row-is)

@@ -1,4 +1,6 @@
 pub mod Sides
+pub mod NumberLaws
+pub mod ReplyNumbers
 pub mod RowCountLaws
 pub mod WorktableLaws
 pub mod LentRowLaws
@@ -8,8 +10,12 @@ pub mod ProducedLaws
 pub mod PassedLaws
 pub mod ValidReadLaws
 pub mod ExactLaws
-pub mod ThirdLaws
 pub mod SecondLaws
+pub mod RelationLaws
+pub mod NetDepthLaws
+pub mod RowMeaningLaws
+pub mod ThirdLaws
+pub mod CallLaws
 pub mod Findings
 pub mod Packings
 pub mod Replies

@@ -1,6 +1,7 @@
--- Nesting (specs/Third.antt) by the reduced form. A word's starts less its ends are those of its reduced form, as what is balanced has as
--- many of the one as of the other. Reading on never takes an unmatched end away, so a beginning of a balanced word has none: its tags left
--- are its open elements. So a beginning with more than n tags left nests past n, and the other way round. Assumes nothing.
+-- Nesting (specs/Third.antt), and the tags of a word (specs/Second.antt), by the reduced form. A word's starts less its ends are those of
+-- its reduced form, as what is balanced has as many of the one as of the other. Reading on never takes an unmatched end away, so a
+-- beginning of a balanced word has none: its tags left are its open elements. So a beginning with more than n tags left nests past n, and
+-- the other way round. Assumes nothing.
 use mathlib.Core.Path.{_≡_, refl, sym, ap, _∙_, subst}
 use mathlib.Core.List.{List, [], _∷_, _++_}
 use Prim.Native.Nat.{ℕ, _+_, _≤_, _<_}
@@ -15,7 +16,7 @@ use Rattle.words.proofs.ValueLaws.{value-balanced}
 use Rattle.words.proofs.ReducedLaws.{balanced-iff}
 use Rattle.words.proofs.ReadLaws.{run-append, run-reduced}
 use Rattle.words.proofs.DepthLaws.{tags-counted}
-use Rattle.demands.specs.Third.{opened, closed}
+use Rattle.demands.specs.Second.{opened, closed}
 
 -- ---- counting tags
 
@@ -42,7 +43,7 @@ balanced-counts (element {a = a} {u = u} {v = v} p q) =
     omega (arith, e, d, i, j)
 
 module _ (B : Binoid) where
-  reduced-counts : {w : List Tag} {s : Stack (B .H)} {c : B .H} → Reduced B w s c → opened w + ends s ≡ closed w + starts s
+  pub reduced-counts : {w : List Tag} {s : Stack (B .H)} {c : B .H} → Reduced B w s c → opened w + ends s ≡ closed w + starts s
   unfolding opened closed ends starts
   reduced-counts (whole p) = let e = balanced-counts (value-balanced B p) in omega (arith, e)
   reduced-counts (after-end {u = u} {v = v} {a = a} n r p) =

@@ -1,5 +1,5 @@
--- What a sound template set produces is spelled by bytes (specs/Third.antt): the tags in its rules have names below A, and A is at most 32,
--- so each tag of a tree's string has its byte. By induction on the tree. Assumes nothing.
+-- What a sound template set produces is spelled by bytes (specs/Third.antt), a page as any string of a nonterminal: the tags in its rules
+-- have names below A, and A is at most 32, so each tag of a tree's string has its byte. By induction on the tree. Assumes nothing.
 use mathlib.Core.List.{List, [], _∷_}
 use Prim.Native.Nat.{ℕ, _+_}
 use native.Mathlib.Omega.{arith}
@@ -11,9 +11,8 @@ use Rattle.template.proofs.SoundLaws.{SoundFile, sound-file}
 use Rattle.template.proofs.GrammarLaws.{TagBelow, SymbolsBelow, gives-below}
 use Rattle.reader.specs.Reads.{Spelled, spelled-none, spelled-more}
 use Rattle.reader.proofs.SpelledLaws.{spelled-append}
-use Rattle.trees.specs.Trees.{Yields, yields-nothing, yields-tag, yields-tree}
+use Rattle.trees.specs.Trees.{Tree, Yields, yields-nothing, yields-tag, yields-tree}
 use Rattle.rounds.specs.Checks.{RuleOf}
-use Rattle.demands.specs.Third.{Produces}
 
 -- some bytes spell the word
 abbrev pub Written : ℕ → List Tag → Type 0
@@ -37,7 +36,10 @@ module _ (f : List ℕ) (file : SoundFile f) where
       let (v, r) = yields-written below q in
       (_, spelled-append (nameCount f) s r)
 
-pub produced-written : (f : List ℕ) → IsSound f → (w : List Tag) → Produces f w → Written (nameCount f) w
-produced-written f sound w (n, tree) =
-    let file = sound-file f sound in
-    yields-written f file (file .some-nonterminal, tt) tree
+  -- a tree's nonterminal has a rule, so it is one of the file's
+  tree-spelled : {x : ℕ} {w : List Tag} {n : ℕ} → Tree (RuleOf f) x w n → Written (nameCount f) w
+  tree-spelled (yields-tree {x = x} {rhs = rhs} rule p q) =
+      yields-written (gives-below f file x rhs rule .0, tt) (yields-tree rule p q)
+
+pub tree-written : (f : List ℕ) → IsSound f → {x : ℕ} {w : List Tag} {n : ℕ} → Tree (RuleOf f) x w n → Written (nameCount f) w
+tree-written f sound tree = tree-spelled f (sound-file f sound) tree

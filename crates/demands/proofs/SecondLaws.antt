@@ -1,8 +1,8 @@
 -- Demand 2 (specs/Second.antt) from the laws of the page and summary crates: a page's promise is met by "valid" exactly where the page is
 -- read and valid; a fragment is summarised exactly where nothing is refused, since a run that is readable throughout holds no refusal; a
--- join of two words' summaries says what becomes of the two in a row. Document 01's numbers are taken apart by cases. Assumes nothing.
+-- join of two words' summaries says what becomes of the two in a row. The numbers of the answers are taken apart by cases. Assumes nothing.
 use mathlib.Core.Path.{_≡_, refl, ap, subst}
-use mathlib.Core.List.{List, _++_}
+use mathlib.Core.List.{List}
 use mathlib.Core.Logic.{_↔_}
 use Prim.Native.Nat.{ℕ}
 use native.Mathlib.Omega.{arith}
@@ -10,24 +10,26 @@ use Rattle.pieces.specs.Pieces.{mostTags}
 use Rattle.template.specs.Layout.{nameCount}
 use Rattle.template.specs.Order.{IsSound}
 use Rattle.reader.specs.Reads.{AllReadable, Reason, refused}
-use Rattle.reader.proofs.SpelledLaws.{spelled-append}
 use Rattle.reader.proofs.ReadsLaws.{reads-finding, all-readable-unrefused}
 use Rattle.form.specs.declared.Summary.{Summary}
 use Rattle.summary.specs.declared.FragmentAnswer.{FragmentAnswer}
 use Rattle.summary.specs.declared.FragmentAnswer.the-variants as fragment
+use Rattle.summary.specs.declared.FragmentReply.{FragmentReply}
 use Rattle.summary.specs.declared.JoinAnswer.{JoinAnswer}
 use Rattle.summary.specs.declared.JoinAnswer.the-variants as joined
+use Rattle.summary.specs.declared.JoinReply.{JoinReply}
 use Rattle.schema.specs.Schemas.{binoidOf}
-use Rattle.summary.specs.Fragments.{ReadUnder, FragmentAnswers}
+use Rattle.summary.specs.Fragments.{ReadUnder, FragmentAnswers, FragmentSays}
+use Rattle.summary.specs.Joins.{JoinSays}
 use Rattle.summary.specs.Answers.{fragmentAnswer, joinAnswer}
 use Rattle.schema.proofs.SchemaLaws.{lawsOf}
 use Rattle.template.proofs.ShapeLaws.{sound-not-bad}
-use Rattle.summary.proofs.MeaningLaws.{fragment-sound, fragment-summary-of, joined-iff, joined-summary-of, mismatch-iff, deep-iff}
+use Rattle.summary.proofs.MeaningLaws.{fragment-summary-of, joined-iff, joined-summary-of, mismatch-iff, deep-iff}
 use Rattle.page.specs.declared.PageReply.{PageReply}
 use Rattle.page.specs.declared.PageReply.the-variants as page
-use Rattle.page.specs.Pages.{answer}
+use Rattle.page.specs.Pages.{PageSays, answer}
 use Rattle.page.proofs.UniqueLaws.{page-valid}
-use Rattle.demands.specs.Second.{Unrefused, PagesJudged, HoldsForm, FragmentsReduced, FragmentsJoined, SecondDemand}
+use Rattle.demands.specs.Second.{Unrefused, PageJudged, FragmentReduced, JoinReduced}
 
 -- ---- the numbers
 
@@ -48,10 +50,10 @@ answer-summarised (fragment.Mismatch i) e = absurd (omega arith)
 answer-summarised (fragment.TooDeep i) e = absurd (omega arith)
 
 -- an answer of a join that has no place is known by its number
-abbrev Named : JoinAnswer → Type 0
+abbrev pub Named : JoinAnswer → Type 0
 Named a = (joinAnswer a ≡ 0 → a ≡ joined.Joined) × (joinAnswer a ≡ 11 → a ≡ joined.Mismatch) × (joinAnswer a ≡ 12 → a ≡ joined.TooDeep)
 
-answer-join : (a : JoinAnswer) → Named a
+pub answer-join : (a : JoinAnswer) → Named a
 answer-join joined.Joined = (λ e. refl, λ e. absurd (omega arith), λ e. absurd (omega arith))
 answer-join (joined.BadFile i) = (λ e. absurd (omega arith), λ e. absurd (omega arith), λ e. absurd (omega arith))
 answer-join joined.NoSummary = (λ e. absurd (omega arith), λ e. absurd (omega arith), λ e. absurd (omega arith))
@@ -64,8 +66,8 @@ numbered n back h = (λ e. h .0 (back e), λ p. ap n (h .1 p))
 
 -- ---- pages
 
-pages-judged : PagesJudged
-pages-judged f bytes r says =
+pub page-judged : (f bytes : List ℕ) (r : PageReply) → PageSays f bytes r → PageJudged f bytes (answer r)
+page-judged f bytes r says =
     let (to, from) = page-valid f bytes r says in (
       λ e. let (sound, all, valid) = to (answer-valid r e) in ((sound, all), valid),
       λ ((sound, all), valid). ap answer (from (sound, all, valid)),
@@ -83,10 +85,6 @@ module _ (f bytes : List ℕ) where
   summarised-unrefused : (s : Summary) → FragmentAnswers f bytes fragment.Summarised s → Unrefused f bytes
   summarised-unrefused s (sound, (t, c, read, p)) = (sound, reads-finding (nameCount f) (binoidOf f) mostTags read .0)
 
-  summarised-form : (s : Summary) → FragmentAnswers f bytes fragment.Summarised s → HoldsForm f bytes s
-  summarised-form s (sound, (t, c, read, p)) =
-      let h = reads-finding (nameCount f) (binoidOf f) mostTags read .1 in (h .word, t, c, h .spelled, h .reduced, p)
-
   unrefused-summarised : (a : FragmentAnswer) (s : Summary) → FragmentAnswers f bytes a s → Unrefused f bytes → fragmentAnswer a ≡ 0
   unrefused-summarised fragment.Summarised s says h = refl
   unrefused-summarised (fragment.BadFile i) s (e, z) (sound, all) = absurd (sound-not-bad f i sound e)
@@ -94,35 +92,27 @@ module _ (f bytes : List ℕ) where
   unrefused-summarised (fragment.Mismatch i) s (k, read, z) (sound, all) = absurd (readable-not-refused sound all _ i read)
   unrefused-summarised (fragment.TooDeep i) s (k, read, z) (sound, all) = absurd (readable-not-refused sound all _ i read)
 
-fragments-reduced : FragmentsReduced
-fragments-reduced f bytes r says =
-    let made : fragmentAnswer (r .answer) ≡ 0 → FragmentAnswers f bytes fragment.Summarised (r .summary) =
-    λ e. subst (λ a. FragmentAnswers f bytes a (r .summary)) (answer-summarised (r .answer) e) says in (
-      (λ e. summarised-unrefused f bytes (r .summary) (made e), unrefused-summarised f bytes (r .answer) (r .summary) says),
-      λ e. summarised-form f bytes (r .summary) (made e),
-    )
+  pub fragment-reduced : (r : FragmentReply) → FragmentSays f bytes r
+      → FragmentReduced f bytes (fragmentAnswer (r .answer)) (r .summary)
+  fragment-reduced r says = record {
+    summarised = (
+      λ e.
+          summarised-unrefused (r .summary)
+          (subst (λ a. FragmentAnswers f bytes a (r .summary)) (answer-summarised (r .answer) e) says),
+      unrefused-summarised (r .answer) (r .summary) says,
+    );
+    reduced-form = λ e. fragment-summary-of f bytes r says (answer-summarised (r .answer) e);
+  }
 
 -- ---- joins
 
-fragments-joined : FragmentsJoined
-fragments-joined f u v r s j left right lr rs says =
-    let l = answer-summarised (r .answer) lr in
-    let sound = fragment-sound f u r left l in
-    let (w, p, h) = fragment-summary-of f u r left l in
-    let (z, q, k) = fragment-summary-of f v s right (answer-summarised (s .answer) rs) in
-    let spelled = spelled-append (nameCount f) p q in
-    let (none, clash, deep) = answer-join (j .answer) in
+pub join-reduced : (f : List ℕ) (left right : Summary) (r : JoinReply) → JoinSays f left right r
+    → JoinReduced f left right (joinAnswer (r .answer)) (r .summary)
+join-reduced f left right r says sound u v p q =
+    let (none, clash, deep) = answer-join (r .answer) in
     record {
-      word = w ++ z;
-      spelled = spelled;
-      joined = numbered joinAnswer none (joined-iff f sound h k j says);
-      end-to-end = λ e.
-          let m = joined-summary-of f sound h k j says (none e) in
-          (w ++ z, _, _, spelled, m .reduces, m .packs);
-      mismatch = numbered joinAnswer clash (mismatch-iff f sound h k j says);
-      too-deep = numbered joinAnswer deep (deep-iff f sound h k j says);
+      fits = numbered joinAnswer none (joined-iff f sound p q r says);
+      end-to-end = λ e. joined-summary-of f sound p q r says (none e);
+      mismatch = numbered joinAnswer clash (mismatch-iff f sound p q r says);
+      too-deep = numbered joinAnswer deep (deep-iff f sound p q r says);
     }
-
-pub second-demand : SecondDemand
-second-demand =
-    record { pages-judged = pages-judged; fragments-reduced = fragments-reduced; fragments-joined = fragments-joined }

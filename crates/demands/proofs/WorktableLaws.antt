@@ -12,7 +12,7 @@ use Rattle.rows.specs.Tables.{flat}
 use Rattle.rows.proofs.TableLaws.{Wide, flat-length}
 use Rattle.worktable.specs.Packed.{rowWidth, mostImages, tableLong}
 use Rattle.rounds.specs.Checks.{Rows, afterPass, zeroed, Decided, CheckSays}
-use Rattle.rounds.specs.Answers.{answer}
+use Rattle.rounds.specs.Answers.{answer, number, images}
 use Rattle.rounds.specs.declared.CheckReply.{CheckReply}
 use Rattle.rounds.specs.declared.CheckReply.the-variants as check
 use Rattle.demands.specs.First.{Worktable}
@@ -35,27 +35,32 @@ rows-then-zeros n rows wide few = rw (length-append, length-replicate, flat-leng
 
 -- ---- by the reply
 
-module _ (t u : List ℕ) where
-  refused-worktable : (r : CheckReply) → 6 ≤ answer r → u ≡ t → Worktable t r u
-  refused-worktable r many e = record {
-    refused-unchanged = λ h. e;
-    ended-zero = λ h k. absurd (omega (arith, many, k));
-    rest-unchanged = ap (drop tableLong) e;
-    same-length = ap length e;
-  }
+module _ (f t u : List ℕ) (a n m : ℕ) where
+  refused-worktable : 6 ≤ a → u ≡ t → Worktable f t a n m u
+  refused-worktable many e =
+      record {
+        refused-unchanged = λ h. e;
+        ended-zero = λ h k. absurd (omega (arith, many, k));
+        passed-rows = λ h. absurd (omega (arith, many, h));
+        rest-unchanged = ap (drop tableLong) e;
+        same-length = ap length e;
+      }
 
-  ended-worktable : (r : CheckReply) → answer r ≤ 5 → tableLong ≤ length t → u ≡ zeroed t → Worktable t r u
-  ended-worktable r few room e = record {
-    refused-unchanged = λ h. absurd (omega (arith, few, h));
-    ended-zero = λ h k. e;
-    rest-unchanged = ap (drop tableLong) e ∙ fronted-rest tableLong (replicate tableLong 0) t (length-replicate {A = ℕ} tableLong 0) room;
-    same-length = ap length e ∙ fronted-length tableLong (replicate tableLong 0) t (length-replicate {A = ℕ} tableLong 0) room;
-  }
+  ended-worktable : 1 ≤ a → a ≤ 5 → tableLong ≤ length t → u ≡ zeroed t → Worktable f t a n m u
+  ended-worktable some few room e =
+      let long : length {A = ℕ} (replicate tableLong 0) ≡ tableLong = length-replicate {A = ℕ} tableLong 0 in
+      record {
+        refused-unchanged = λ h. absurd (omega (arith, few, h));
+        ended-zero = λ h k. e;
+        passed-rows = λ h. absurd (omega (arith, some, h));
+        rest-unchanged = ap (drop tableLong) e ∙ fronted-rest tableLong (replicate tableLong 0) t long room;
+        same-length = ap length e ∙ fronted-length tableLong (replicate tableLong 0) t long room;
+      }
 
 module _ (f t u : List ℕ) (budget : ℕ) where
-  passed-worktable : (r n : ℕ) → Decided f t budget (passed r) → (rows : List (List ℕ)) → Rows f r rows → u ≡ afterPass rows t
-      → Worktable t (check.Passed r n) u
-  passed-worktable r n ((room, _, _), _, _, (_, _, _, quiet, _)) rows made e =
+  passed-worktable : (r n : ℕ) → Decided f t budget (passed r) → (rows : List (List ℕ)) → Rows f r rows → n ≡ length rows
+      → u ≡ afterPass rows t → Worktable f t 0 r n u
+  passed-worktable r n ((room, _, _), _, _, (_, _, _, quiet, _)) rows made count e =
       let few : length rows ≤ mostImages = rows-few f r rows made quiet in
       let zeros : List ℕ = replicate (tableLong - length rows * rowWidth) 0 in
       let front = flat rows ++ zeros in
@@ -64,18 +69,19 @@ module _ (f t u : List ℕ) (budget : ℕ) where
       record {
         refused-unchanged = λ h. absurd (omega (arith, h));
         ended-zero = λ h k. absurd (omega (arith, h));
+        passed-rows = λ _. (rows, made, count, e);
         rest-unchanged = ap (drop tableLong) is ∙ fronted-rest tableLong front t long room;
         same-length = ap length is ∙ fronted-length tableLong front t long room;
       }
 
-  pub worktable : (r : CheckReply) → CheckSays f t budget r u → Worktable t r u
-  worktable (check.Passed r n) (decided, (rows, made, _, e)) = passed-worktable r n decided rows made e
-  worktable (check.Mismatch r) (((room, _, _), _, _, _), e) = ended-worktable t u (check.Mismatch r) (omega arith) room e
-  worktable (check.Invalid r) (((room, _, _), _, _, _), e) = ended-worktable t u (check.Invalid r) (omega arith) room e
-  worktable (check.TooDeep r) (((room, _, _), _, _, _), e) = ended-worktable t u (check.TooDeep r) (omega arith) room e
-  worktable (check.Crowded r) (((room, _, _), _, _, _), e) = ended-worktable t u (check.Crowded r) (omega arith) room e
-  worktable (check.OutOfRounds b) (_, ((room, _, _), _, _, _), e) = ended-worktable t u (check.OutOfRounds b) (omega arith) room e
-  worktable check.NoPage (_, _, _, e) = refused-worktable t u check.NoPage (omega arith) e
-  worktable (check.BadFile p) (_, _, e) = refused-worktable t u (check.BadFile p) (omega arith) e
-  worktable check.BadBudget (_, _, e) = refused-worktable t u check.BadBudget (omega arith) e
-  worktable check.ShortTable (_, e) = refused-worktable t u check.ShortTable (omega arith) e
+  pub worktable : (r : CheckReply) → CheckSays f t budget r u → Worktable f t (answer r) (number r) (images r) u
+  worktable (check.Passed r n) (decided, (rows, made, count, e)) = passed-worktable r n decided rows made count e
+  worktable (check.Mismatch r) (((room, _, _), _, _, _), e) = ended-worktable f t u 1 r 0 (omega arith) (omega arith) room e
+  worktable (check.Invalid r) (((room, _, _), _, _, _), e) = ended-worktable f t u 2 r 0 (omega arith) (omega arith) room e
+  worktable (check.TooDeep r) (((room, _, _), _, _, _), e) = ended-worktable f t u 3 r 0 (omega arith) (omega arith) room e
+  worktable (check.Crowded r) (((room, _, _), _, _, _), e) = ended-worktable f t u 4 r 0 (omega arith) (omega arith) room e
+  worktable (check.OutOfRounds b) (_, ((room, _, _), _, _, _), e) = ended-worktable f t u 5 b 0 (omega arith) (omega arith) room e
+  worktable check.NoPage (_, _, _, e) = refused-worktable f t u 6 0 0 (omega arith) e
+  worktable (check.BadFile p) (_, _, e) = refused-worktable f t u 7 p 0 (omega arith) e
+  worktable check.BadBudget (_, _, e) = refused-worktable f t u 8 0 0 (omega arith) e
+  worktable check.ShortTable (_, e) = refused-worktable f t u 9 0 0 (omega arith) e

@@ -1,4 +1,5 @@
 pub mod First
 pub mod Second
 pub mod Third
+pub mod Calls
 pub mod Cases

@@ -20,6 +20,7 @@ use Rattle.template.specs.Layout.{nameCount, states}
 use Rattle.template.specs.Order.{IsSound}
 use Rattle.reader.specs.Reads.{Spelled}
 use Rattle.reader.proofs.ReadsLaws.{reads-finding}
+use Rattle.reader.proofs.SpelledLaws.{spelled-append}
 use Rattle.form.specs.Held.{formOf, lastOf}
 use Rattle.form.specs.declared.Summary.{Summary}
 use Rattle.summary.specs.declared.FragmentAnswer.the-variants.{Summarised}
@@ -29,24 +30,19 @@ use Rattle.summary.specs.declared.JoinAnswer.the-variants.{Joined, BadFi
 use Rattle.summary.specs.declared.JoinReply.{JoinReply}
 use Rattle.summary.specs.Packing.{Packs}
 use Rattle.schema.specs.Schemas.{binoidOf}
+use Rattle.summary.specs.Words.{SummaryOf}
 use Rattle.summary.specs.Fragments.{FragmentAnswers, FragmentSays}
 use Rattle.summary.specs.Joins.{SummaryUnder, JoinAnswers, JoinSays}
-use Rattle.summary.proofs.PackingLaws.{packs-own}
+use Rattle.summary.proofs.PackingLaws.{holds-packs}
 use Rattle.schema.proofs.SchemaLaws.{lawsOf}
 use Rattle.template.proofs.ShapeLaws.{sound-not-bad}
 use Rattle.summary.proofs.UniqueLaws.{packs-unique}
-use Rattle.summary.proofs.NamedLaws.{WordBelow, word-append, spelled-below, reduced-below, joined-below}
+use Rattle.summary.proofs.NamedLaws.{spelled-below, reduced-below, joined-below}
 use Rattle.summary.proofs.PlaceLaws.{packed-summary, summary-below, summary-good}
 
--- the struct is the summary of the word, whose names are the file's: it packs the word's reduced form
-pub record SummaryOf (f : List ℕ) (w : List Tag) (s : Summary) : Type 0 where
-  pub below : WordBelow (nameCount f) w
-  pub reduces : Reduced (binoidOf f) w (formOf s) (lastOf s)
-  pub packs : Packs s (formOf s) (lastOf s)
-
-pub summary-of : (f : List ℕ) {w : List Tag} {s : Summary} {t : Stack Piece} {c : Piece} → WordBelow (nameCount f) w → Reduced (binoidOf f) w t c
-    → Packs s t c → SummaryOf f w s
-summary-of f b r p = record { below = b; reduces = rw (p .form-is, p .last-is) r; packs = packs-own p }
+pub summary-of : (f bytes : List ℕ) {w : List Tag} {s : Summary} {t : Stack Piece} {c : Piece} → Spelled (nameCount f) bytes w
+    → Reduced (binoidOf f) w t c → Packs s t c → SummaryOf f w s
+summary-of f bytes b r p = record { spelled = (bytes, b); reduces = rw (p .form-is, p .last-is) r; holds = p .holds }
 
 module _ (f : List ℕ) (sound : IsSound f) where
   -- ---- the summary of a word
@@ -54,12 +50,13 @@ module _ (f : List ℕ) (sound : IsSound f) where
   pub summary-of-unique : {w : List Tag} {s s′ : Summary} → SummaryOf f w s → SummaryOf f w s′ → s ≡ s′
   summary-of-unique {s = s} {s′ = s′} p q =
       let (e, d) = reduced-unique (binoidOf f) (lawsOf f sound) (p .reduces) (q .reduces) in
-      packs-unique (p .packs) (rw (← e, ← d) at (q .packs))
+      packs-unique (holds-packs s (p .holds)) (rw (← e, ← d) at (holds-packs s′ (q .holds)))
 
   pub summary-of-under : {w : List Tag} {s : Summary} → SummaryOf f w s → SummaryUnder f s
   summary-of-under {s = s} p =
       let (g, h) = reduced-good (binoidOf f) (lawsOf f sound) (p .reduces) in
-      packed-summary (nameCount f) (states f) s (p .packs) (reduced-below (nameCount f) (binoidOf f) (p .reduces) (p .below)) g h
+      packed-summary (nameCount f) (states f) s (holds-packs s (p .holds))
+      (reduced-below (nameCount f) (binoidOf f) (p .reduces) (spelled-below (nameCount f) (p .spelled .1))) g h
 
 -- ---- fragments
 
@@ -75,7 +72,7 @@ module _ (f bytes : List ℕ) (r : FragmentReply) (says : FragmentSays f bytes r
   fragment-summary-of =
       let (sound, (t, c, read, p)) = summarised in
       let (all, formed) = reads-finding (nameCount f) (binoidOf f) mostTags read in
-      (formed .word, formed .spelled, summary-of f (spelled-below (nameCount f) (formed .spelled)) (formed .reduced) p)
+      (formed .word, formed .spelled, summary-of f bytes (formed .spelled) (formed .reduced) p)
 
   pub fragment-under : SummaryUnder f (r .summary)
   fragment-under = summary-of-under f fragment-sound (fragment-summary-of .2)
@@ -116,7 +113,7 @@ module _ (f : List ℕ) (sound : IsSound f) {u v : List Tag} {left right : Summa
   join-means : (a : JoinAnswer) (s : Summary) → JoinAnswers f left right a s → Means a s
   join-means Joined s (h, (t, c, o, k, z)) =
       let r = join-reduced (binoidOf f) (lawsOf f sound) (p .reduces) (q .reduces) t c .0 o in
-      ((t, c, r, k), summary-of f (word-append (nameCount f) u v (p .below) (q .below)) r z)
+      ((t, c, r, k), summary-of f _ (spelled-append (nameCount f) (p .spelled .1) (q .spelled .1)) r z)
   join-means (BadFile i) s (e, z) = sound-not-bad f i sound e
   join-means NoSummary s (h, n, z) = n (summary-of-under f sound p) (summary-of-under f sound q)
   join-means Mismatch s (h, o, z) = join-differ (binoidOf f) (lawsOf f sound) (p .reduces) (q .reduces) .0 o

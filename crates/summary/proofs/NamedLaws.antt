@@ -22,10 +22,6 @@ module _ (A : ℕ) where
   word-parts [] v h = (tt, h)
   word-parts (t ∷ u) v (k, h) = let (p, q) = word-parts u v h in ((k, p), q)
 
-  pub word-append : (u v : List Tag) → WordBelow u → WordBelow v → WordBelow (u ++ v)
-  word-append [] v h k = k
-  word-append (t ∷ u) v (p, h) k = (p, word-append u v h k)
-
   spells-below : {b : ℕ} {t : Tag} → Spells A b t → TagBelow A t
   spells-below (start-byte n) = n .0
   spells-below (end-byte n) = n .0

@@ -1,7 +1,7 @@
 -- The test of a struct, place by place, says exactly that it is a summary (specs/Packing.antt). A place in use passes by the choice's
 -- first arm, another by its second; behind the arrays' ends every place is 0. A piece that the test lets through is small, since it adds
 -- no bit to a small number. And a struct that holds a form packs it. Assumes nothing.
-use mathlib.Core.Path.{_≡_, refl, sym, ap, _∙_}
+use mathlib.Core.Path.{_≡_, refl, sym, _∙_}
 use mathlib.Core.Bool.{Bool, true, false, false≢true, not}
 use mathlib.Core.List.{List}
 use mathlib.Core.Logic.{_↔_}
@@ -10,10 +10,8 @@ use native.Mathlib.Decide.{decLt, decLe}
 use native.Mathlib.Omega.{arith}
 use lib.ListN.{length, getD, List·getD-eq-default}
 use borrow.Author.Tests.{lt-ltb, le-ltb, le-leb, lt-leb, ltb-true, eqb-true, not-true, not-false}
-use Rattle.words.specs.Reduced.{Stack}
 use Rattle.hedge.specs.Schema.{mostStates}
-use Rattle.pieces.specs.declared.Piece.{Piece}
-use Rattle.pieces.specs.Pieces.{mostTags, mostPieces, piecesLong, piece, zeroPiece, pieceAt, PieceWithin, fitsIn}
+use Rattle.pieces.specs.Pieces.{mostTags, mostPieces, piecesLong, zeroPiece, pieceAt, PieceWithin}
 use Rattle.pieces.proofs.PieceLaws.{piece-past, fits-within, none-is}
 use Rattle.form.specs.Held.{tagCount, formOf, lastOf, Holds}
 use Rattle.form.specs.declared.Summary.{Summary}
@@ -138,7 +136,3 @@ module _ (A q : ℕ) (s : Summary) where
 -- the form that a summary holds
 pub holds-packs : (s : Summary) → Holds s → Packs s (formOf s) (lastOf s)
 holds-packs s h = record { holds = h; form-is = refl; last-is = refl }
-
--- a struct packs its own form
-pub packs-own : {s : Summary} {t : Stack Piece} {c : Piece} → Packs s t c → Packs s (formOf s) (lastOf s)
-packs-own {s} p = holds-packs s (p .holds)

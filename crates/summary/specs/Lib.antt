@@ -1,4 +1,5 @@
 pub mod Packing
+pub mod Words
 pub mod Fragments
 pub mod Joins
 pub mod Answers

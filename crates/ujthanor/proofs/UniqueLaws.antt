@@ -1,6 +1,6 @@
 -- The promises of the calls determine every number and every lent entry. Each is a reply that its own promise determines, laid out by
 -- functions; a lent row is a summary's row or it is not, and stands for one struct either way. Assumes nothing.
-use mathlib.Core.Path.{_≡_, sym, ap, _∙_, subst}
+use mathlib.Core.Path.{_≡_, refl, sym, ap, _∙_, subst}
 use mathlib.Core.List.{List}
 use Prim.Native.Nat.{ℕ, _≤_, _<_}
 use native.Mathlib.Decide.{ℕ-discrete, decLt}
@@ -8,7 +8,7 @@ use native.Mathlib.Omega.{arith}
 use lib.IntN.{ℤ}
 use lib.ListN.{length}
 use Rattle.form.specs.declared.Summary.{Summary}
-use Rattle.worktable.specs.Packed.{rowWidth, nonterminalIn}
+use Rattle.worktable.specs.Packed.{rowWidth, nonterminalIn, summaryIn}
 use Rattle.summary.specs.declared.FragmentReply.{FragmentReply}
 use Rattle.summary.specs.declared.JoinReply.{JoinReply}
 use Rattle.summary.specs.declared.DepthReply.{DepthReply}
@@ -21,7 +21,7 @@ use Rattle.page.proofs.UniqueLaws.{page-unique}
 use Rattle.rounds.specs.declared.CheckReply.{CheckReply}
 use Rattle.rounds.specs.Answers.{answer, number, images}
 use Rattle.rounds.proofs.UniqueLaws.{check-unique}
-use Rattle.ujthanor.specs.LentRows.{written, IsRow, StandsFor}
+use Rattle.ujthanor.specs.LentRows.{written, IsRow, noSummary, StandsFor}
 use Rattle.ujthanor.specs.Calls.{CheckCalled, PageCalled, ShortRow, FragmentWritten, FragmentCalled, JoinWritten, JoinCalled, DepthCalled}
 
 -- what is laid out by a function from replies that are one is one
@@ -44,6 +44,13 @@ stands-unique row s s′ a b = by (is-row row)
     by : Dec (IsRow row) → s ≡ s′
     by (yes r) = a .row-shows r ∙ sym (b .row-shows r)
     by (no n) = a .else-none n ∙ sym (b .else-none n)
+
+pub stands-some : (row : List ℕ) → (s : Summary) × StandsFor row s
+stands-some row = by (is-row row)
+  where
+    by : Dec (IsRow row) → (s : Summary) × StandsFor row s
+    by (yes r) = (summaryIn row, record { row-shows = λ _. refl; else-none = λ n. absurd (n r) })
+    by (no n) = (noSummary, record { row-shows = λ r. absurd (n r); else-none = λ _. refl })
 
 -- ---- the calls
 
