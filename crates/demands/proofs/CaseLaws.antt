@@ -1,4 +1,4 @@
--- Document 01's marked cases hold (specs/Cases.antt). Each case is run: the numbers that it states, and those that the computed replies
+-- The rules' worked cases hold (specs/Cases.antt). Each case is run: the numbers that it states, and those that the computed replies
 -- (proofs/Replies.antt) give, are laid out as one line each; that all lines are the same is computed in one go; and a case whose line comes
 -- out as stated holds, since the computed replies meet their promises. Assumes nothing.
 use mathlib.Core.Path.{_≡_, refl, subst, sym}

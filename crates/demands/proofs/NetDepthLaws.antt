@@ -100,7 +100,7 @@ pub depths-add : (f : List ℕ) (left right : Summary) (j : JoinReply) (d e g : 
     → joinAnswer (j .answer) ≡ 0 → DepthSays f left d → DepthSays f right e → DepthSays f (j .summary) g
     → netDepth g ≡ netDepth d +ℤ netDepth e
 depths-add f left right j d e g says zero l r whole =
-    let joined = answer-join (j .answer) .0 zero in
+    let joined = answer-join (j .answer) zero in
     let both : BothSummaries f left right = subst (λ a. JoinAnswers f left right a (j .summary)) joined says .0 in
     let (sound, left-under, right-under) = both in
     depth-given f (j .summary) sound (joined-under f left right j says joined) g whole

@@ -1,7 +1,7 @@
 -- Demand 2 (specs/Second.antt) from the laws of the page and summary crates: a page's promise is met by "valid" exactly where the page is
 -- read and valid; a fragment is summarised exactly where nothing is refused, since a run that is readable throughout holds no refusal; a
 -- join of two words' summaries says what becomes of the two in a row. The numbers of the answers are taken apart by cases. Assumes nothing.
-use mathlib.Core.Path.{_≡_, refl, ap, subst}
+use mathlib.Core.Path.{_≡_, refl, ap, _∙_, subst}
 use mathlib.Core.List.{List}
 use mathlib.Core.Logic.{_↔_}
 use Prim.Native.Nat.{ℕ}
@@ -21,44 +21,28 @@ use Rattle.summary.specs.declared.JoinReply.{JoinReply}
 use Rattle.schema.specs.Schemas.{binoidOf}
 use Rattle.summary.specs.Fragments.{ReadUnder, FragmentAnswers, FragmentSays}
 use Rattle.summary.specs.Joins.{JoinSays}
-use Rattle.summary.specs.Answers.{fragmentAnswer, joinAnswer}
+use Rattle.summary.specs.Answers.{fragmentAnswer, fragmentNumber, joinAnswer, joinNumber}
 use Rattle.schema.proofs.SchemaLaws.{lawsOf}
 use Rattle.template.proofs.ShapeLaws.{sound-not-bad}
 use Rattle.summary.proofs.MeaningLaws.{fragment-summary-of, joined-iff, joined-summary-of, mismatch-iff, deep-iff}
 use Rattle.page.specs.declared.PageReply.{PageReply}
 use Rattle.page.specs.declared.PageReply.the-variants as page
-use Rattle.page.specs.Pages.{PageSays, answer}
+use Rattle.page.specs.Pages.{PageSays, answer, number}
 use Rattle.page.proofs.UniqueLaws.{page-valid}
+use Rattle.demands.proofs.ReplyNumbers.{pageNamed, page-named, fragmentNamed, fragment-named, joinNamed, join-named}
 use Rattle.demands.specs.Second.{Unrefused, PageJudged, FragmentReduced, JoinReduced}
 
 -- ---- the numbers
 
 answer-valid : (p : PageReply) → answer p ≡ 0 → p ≡ page.Valid
-answer-valid page.Valid e = refl
-answer-valid (page.BadFile i) e = absurd (omega arith)
-answer-valid (page.NotATag i) e = absurd (omega arith)
-answer-valid (page.Mismatch i) e = absurd (omega arith)
-answer-valid (page.TooDeep i) e = absurd (omega arith)
-answer-valid page.Unmatched e = absurd (omega arith)
-answer-valid page.NotDerived e = absurd (omega arith)
+answer-valid p e = page-named p ∙ ap (λ (a : ℕ). pageNamed p a (number p)) e
 
 pub answer-summarised : (a : FragmentAnswer) → fragmentAnswer a ≡ 0 → a ≡ fragment.Summarised
-answer-summarised fragment.Summarised e = refl
-answer-summarised (fragment.BadFile i) e = absurd (omega arith)
-answer-summarised (fragment.NotATag i) e = absurd (omega arith)
-answer-summarised (fragment.Mismatch i) e = absurd (omega arith)
-answer-summarised (fragment.TooDeep i) e = absurd (omega arith)
+answer-summarised a e = fragment-named a ∙ ap (λ (n : ℕ). fragmentNamed a n (fragmentNumber a)) e
 
 -- an answer of a join that has no place is known by its number
-abbrev pub Named : JoinAnswer → Type 0
-Named a = (joinAnswer a ≡ 0 → a ≡ joined.Joined) × (joinAnswer a ≡ 11 → a ≡ joined.Mismatch) × (joinAnswer a ≡ 12 → a ≡ joined.TooDeep)
-
-pub answer-join : (a : JoinAnswer) → Named a
-answer-join joined.Joined = (λ e. refl, λ e. absurd (omega arith), λ e. absurd (omega arith))
-answer-join (joined.BadFile i) = (λ e. absurd (omega arith), λ e. absurd (omega arith), λ e. absurd (omega arith))
-answer-join joined.NoSummary = (λ e. absurd (omega arith), λ e. absurd (omega arith), λ e. absurd (omega arith))
-answer-join joined.Mismatch = (λ e. absurd (omega arith), λ e. refl, λ e. absurd (omega arith))
-answer-join joined.TooDeep = (λ e. absurd (omega arith), λ e. absurd (omega arith), λ e. refl)
+pub answer-join : (a : JoinAnswer) {n : ℕ} → joinAnswer a ≡ n → a ≡ joinNamed a n (joinNumber a)
+answer-join a e = join-named a ∙ ap (λ (n : ℕ). joinNamed a n (joinNumber a)) e
 
 -- what holds exactly where the answer is this one holds exactly where its number is
 numbered : {A P : Type 0} {a b : A} (n : A → ℕ) → (n a ≡ n b → a ≡ b) → (a ≡ b) ↔ P → (n a ≡ n b) ↔ P
@@ -109,10 +93,9 @@ module _ (f bytes : List ℕ) where
 pub join-reduced : (f : List ℕ) (left right : Summary) (r : JoinReply) → JoinSays f left right r
     → JoinReduced f left right (joinAnswer (r .answer)) (r .summary)
 join-reduced f left right r says sound u v p q =
-    let (none, clash, deep) = answer-join (r .answer) in
     record {
-      fits = numbered joinAnswer none (joined-iff f sound p q r says);
-      end-to-end = λ e. joined-summary-of f sound p q r says (none e);
-      mismatch = numbered joinAnswer clash (mismatch-iff f sound p q r says);
-      too-deep = numbered joinAnswer deep (deep-iff f sound p q r says);
+      fits = numbered joinAnswer (λ e. answer-join (r .answer) e) (joined-iff f sound p q r says);
+      end-to-end = λ e. joined-summary-of f sound p q r says (answer-join (r .answer) e);
+      mismatch = numbered joinAnswer (λ e. answer-join (r .answer) e) (mismatch-iff f sound p q r says);
+      too-deep = numbered joinAnswer (λ e. answer-join (r .answer) e) (deep-iff f sound p q r says);
     }

@@ -1,4 +1,4 @@
--- Document 01's marked cases, "Both sides of each line", as one table: the file K, the bytes, and what must come of them.
+-- The cases of the rules that are proved (Rules, section 7), as one table: the file K, the bytes, and what must come of them.
 use mathlib.Core.Path.{_≡_}
 use mathlib.Core.List.{List, [], _∷_, List·Memᴰ}
 use Prim.Native.Nat.{ℕ, suc}
@@ -15,7 +15,7 @@ use Rattle.summary.specs.declared.DepthReply.{DepthReply}
 use Rattle.page.specs.Pages.{PageSays, answer, number}
 use Rattle.page.specs.declared.PageReply.{PageReply}
 
--- "File K": "the schema asks for exactly one b among any a, as the source's Example 2"
+-- file K (Rules, section 11): its schema wants one b, not more and not less, among any number of a
 unfoldable pub K : List ℕ
 K =
     2 ∷ 3 ∷ 2 ∷ 0 ∷ 16 ∷ 0 ∷ 3 ∷ 0 ∷ 28 ∷ 0 ∷ 4 ∷ 0 ∷ 44 ∷ 0 ∷ 1 ∷ 0
