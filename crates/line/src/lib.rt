@@ -5,7 +5,7 @@ ghost use mathlib.Core.List.{[], _∷_, _++_};
 ghost use Prim.Native.Nat.{_+_, _≤_, _%_};
 ghost use lib.ListN.{length};
 ghost use Rattle.line.specs.Decimal.{digitZero, digits, places, decimal, mostDigits};
-ghost use Rattle.line.specs.Lines.{over, lineOf, Shows, Prints, room};
+ghost use Rattle.line.specs.Lines.{over, lineOf, Shows, Prints};
 
 // The budget of the program's check.
 pub const BUDGET: usize = 64;
@@ -16,20 +16,13 @@ const DIGITS: usize = 20;
 // The most bytes of a line: three numbers, and one byte behind each.
 pub const LONGEST: usize = 3 * (DIGITS + 1);
 
-// How many bytes of the input are looked at: one more than the longest file has, so that a longer one is seen to be too long.
+// How many bytes of an input decide its line: one more than the longest file has, so that a longer one is seen to be too long.
 pub const ROOM: usize = template::LONGEST + 1;
 
 // A line, and how many bytes it has; zeros behind it.
 pub struct Line {
     pub bytes: [u8; LONGEST],
     pub len: usize,
-}
-
-// Where the input is read to.
-pub fn buffer() -> [u8; ROOM]
-    ensures { λ r. ⌜ room ≡ length r ⌝ }
-{
-    [0u8; ROOM]
 }
 
 // The last digit of a number.

@@ -83,7 +83,7 @@ fn complain(sentence: &[u8]) {
 }
 
 fn main() {
-    let mut buffer = line::buffer();
+    let mut buffer = [0u8; line::ROOM];
     let input = read_input(&mut buffer);
     let Input::Whole(n) = input else {
         complain(b"setcheck: standard input could not be read\n");

@@ -3,9 +3,6 @@ use Rattle.setcheck.proofs.InputLaws.{inputs}
 use Rattle.setcheck.proofs.main.Statement.{statement}
 use Rattle.setcheck.proofs.main.Tie as tie
 
-buffer-requires : tie.Need-buffer-requires
-buffer-requires c κs = search inputs
-
 slice-aggregate-read-input : tie.Need-slice-aggregate-read-input
 slice-aggregate-read-input c = search inputs
 
@@ -52,7 +49,6 @@ pub main-spec : {M : Type 1} → statement M
 main-spec =
     tie.close
     (tie.spec
-    buffer-requires
     slice-aggregate-read-input
     read-input-requires
     enum-known-input
