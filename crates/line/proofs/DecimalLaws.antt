@@ -1,17 +1,15 @@
 -- How many digits a number has (specs/Decimal.antt): one below ten, else one more than its tenth part, whatever bounds the turns; a number
 -- below 10 ^ k has at most k. Then what counting has after each turn, for `search counts`. Assumes nothing.
-use mathlib.Core.Path.{_≡_, refl, sym, _∙_}
-use mathlib.Core.List.{List, [], _∷_}
-use Prim.Native.Nat.{ℕ, zero, suc, _+_, _*_, _/_, _%_, _^_, _≤_, _<_}
+use mathlib.Core.Path.{_≡_, refl}
+use Prim.Native.Nat.{ℕ, zero, suc, _+_, _*_, _/_, _^_, _≤_, _<_}
 use native.Mathlib.Nat.{pow-suc}
 use native.Mathlib.Decide.{decLt}
 use native.Mathlib.Omega.{arith}
-use lib.ListN.{length, length-append}
 use mir.Syntax.{w64}
 use mir.Val.{Fits}
 use borrow.Author.Needs.{needs}
 use borrow.Author.Tests.{lt-ltb, le-ltb}
-use Rattle.line.specs.Decimal.{mostDigits, digits, oneOr, placesWithin, places, decimal}
+use Rattle.line.specs.Decimal.{mostDigits, digits, placesWithin, places}
 
 -- ---- how many digits
 

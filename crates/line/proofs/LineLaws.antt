@@ -1,6 +1,6 @@
 -- What is written over a list (specs/Lines.antt): nothing; one entry more behind what is written; two texts one behind the other. Then what
 -- the code has at each turn and each call, for `search lines`. Assumes nothing.
-use mathlib.Core.Path.{_≡_, refl, sym, ap, _∙_, subst}
+use mathlib.Core.Path.{_≡_, sym, ap, _∙_, subst}
 use mathlib.Core.List.{List, [], _∷_, _++_, append-assoc}
 use Prim.Native.Nat.{ℕ, zero, suc, _+_, _-_, _/_, _%_, _≤_, _<_}
 use native.Mathlib.Nat.{zero-sub, suc-sub-suc, sub-zero, add-zero}
@@ -47,15 +47,6 @@ over-over at xs ys out h =
     ∙ drop-drop (length ys) j out in
     let end : at + length (xs ++ ys) ≡ j + length ys = rw (length-append) (omega arith) in
     rw (whole, head, tail, end, append-assoc (take at out) xs, append-assoc xs ys)
-
-pub over-length : (at : ℕ) (xs out : List ℕ) → at + length xs ≤ length out → length (over at xs out) ≡ length out
-unfolding over
-over-length at xs out h =
-    let front : length (take at out) ≡ at = length-take-le at out (omega arith) in
-    let back : length (take (at + length xs) out) ≡ at + length xs = length-take-le (at + length xs) out h in
-    let whole = length-append (take (at + length xs) out) (drop (at + length xs) out) in
-    let same = ap length (take-append-drop (at + length xs) out) in
-    rw (length-append, length-append) (omega (arith, front, back, whole, same))
 
 pub set-length : (out out₀ : List ℕ) (i v : ℕ) → length out ≡ length out₀ → length (set out i v) ≡ length out₀
 set-length out out₀ i v e = length-set out i v ∙ e

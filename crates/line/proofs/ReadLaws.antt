@@ -1,12 +1,11 @@
 -- What digits mean (specs/Decimal.antt): a number in decimal is made of digits, does not begin with a zero unless it is 0, and read back
--- gives the number; so no two numbers are written alike. The last k digits show what is left of the number below 10 ^ k. Assumes nothing.
-use mathlib.Core.Path.{_≡_, refl, sym, ap, _∙_}
+-- gives the number; so no two numbers are written alike, and no other digits show the number. A claim on a number rests on the claim on
+-- its tenth part. Assumes nothing.
+use mathlib.Core.Path.{_≡_, refl, sym, ap, _∙_, subst}
 use mathlib.Core.List.{List, [], _∷_, _++_}
 use Prim.Native.Nat.{ℕ, zero, suc, _+_, _-_, _*_, _/_, _%_, _^_, _≤_, _<_}
-use native.Mathlib.Nat.{pow-suc, mod-one, mod-eq-of-lt, mod-lt}
 use native.Mathlib.Decide.{decLt}
 use native.Mathlib.Omega.{arith}
-use lib.Arith.{mod-mul}
 use lib.ListN.{length, getD, length-append, List·getD-append}
 use Rattle.line.specs.Decimal.{digitZero, digits, places, decimal, readOn, valueOf}
 use Rattle.line.proofs.DecimalLaws.{places-small, places-large, places-some}
@@ -85,3 +84,70 @@ decimal-read =
 
 pub decimal-injective : (n m : ℕ) → decimal n ≡ decimal m → n ≡ m
 decimal-injective n m e = sym (decimal-read n) ∙ ap valueOf e ∙ decimal-read m
+
+-- ---- no other digits show the number
+
+-- digits without a leading zero that show n
+pub record Written (n : ℕ) (ds : List ℕ) : Type 0 where
+  pub some : 1 ≤ length ds
+  pub digits-only : AllDigits ds
+  pub no-leading-zero : 2 ≤ length ds → digitZero < getD ds 0 0
+  pub shows : valueOf ds ≡ n
+
+read-grows : (m : ℕ) (ds : List ℕ) → m ≤ readOn m ds
+unfolding readOn
+read-grows m [] = omega arith
+read-grows m (d ∷ ds) = let more = read-grows (m * 10 + (d - digitZero)) ds in omega (arith, more)
+
+value-some : (ds : List ℕ) → digitZero < getD ds 0 0 → 1 ≤ valueOf ds
+unfolding readOn
+value-some [] h = absurd (omega (arith, h))
+value-some (d ∷ ds) h = let more = read-grows (0 * 10 + (d - digitZero)) ds in omega (arith, more, h)
+
+all-out : (xs : List ℕ) (d : ℕ) → AllDigits (xs ++ (d ∷ [])) → AllDigits xs × (digitZero ≤ d) × (d ≤ digitZero + 9)
+all-out [] d (l, h, _) = (tt, l, h)
+all-out (x ∷ xs) d (l, h, a) = let (b, low, high) = all-out xs d a in ((l, h, b), low, high)
+
+-- a list that is not empty has a last entry
+last-of : (d : ℕ) (ds : List ℕ) → (xs : List ℕ) × (e : ℕ) × (d ∷ ds ≡ xs ++ (e ∷ []))
+last-of d [] = ([], d, refl)
+last-of d (x ∷ ds) = let (xs, e, same) = last-of x ds in (d ∷ xs, e, ap (λ (r : List ℕ). d ∷ r) same)
+
+-- one digit, or digits and a last one: then the tenth part is written before it
+module _ (n : ℕ) (before : 10 ≤ n → (xs : List ℕ) → Written (n / 10) xs → xs ≡ decimal (n / 10)) where
+  one-only : (d : ℕ) → Written n (d ∷ []) → d ∷ [] ≡ decimal n
+  unfolding readOn
+  one-only d w =
+      let (_, low, high) = all-out [] d (w .digits-only) in
+      let value = w .shows in
+      let e : d ≡ digitZero + n = omega (arith, low, value) in
+      rw (decimal-small n (omega (arith, high, e)), e)
+
+  more-only : (x : ℕ) (xs : List ℕ) (d : ℕ) → Written n ((x ∷ xs) ++ (d ∷ [])) → (x ∷ xs) ++ (d ∷ []) ≡ decimal n
+  more-only x xs d w =
+      let (all, low, high) = all-out (x ∷ xs) d (w .digits-only) in
+      let value = sym (read-append 0 (x ∷ xs) d) ∙ w .shows in
+      let long = length-append (x ∷ xs) (d ∷ []) in
+      let first = w .no-leading-zero (omega (arith, long)) in
+      let some = value-some (x ∷ xs) first in
+      let large : 10 ≤ n = omega (arith, some, value) in
+      let tenth : valueOf (x ∷ xs) ≡ n / 10 = omega (arith, value, low, high) in
+      let last : d ≡ digitZero + n % 10 = omega (arith, value, low, high) in
+      let same = before large (x ∷ xs) (record { some = omega arith; digits-only = all; no-leading-zero = λ _. first; shows = tenth }) in
+      ap (λ (r : List ℕ). r ++ (d ∷ [])) same ∙ ap (λ (e : ℕ). decimal (n / 10) ++ (e ∷ [])) last ∙ sym (decimal-large n large)
+
+  split-only : (xs : List ℕ) (d : ℕ) → Written n (xs ++ (d ∷ [])) → xs ++ (d ∷ []) ≡ decimal n
+  split-only [] d w = one-only d w
+  split-only (x ∷ xs) d w = more-only x xs d w
+
+  list-only : (ds : List ℕ) → Written n ds → ds ≡ decimal n
+  list-only [] w = absurd (omega (arith, w .some))
+  list-only (d ∷ ds) w =
+      let (xs, e, same) = last-of d ds in
+      same ∙ split-only xs e (subst (λ (r : List ℕ). Written n r) same w)
+
+pub decimal-only : (n : ℕ) (ds : List ℕ) → Written n ds → ds ≡ decimal n
+decimal-only =
+    by-tenths (λ n. (ds : List ℕ) → Written n ds → ds ≡ decimal n)
+    (λ n h ds w. list-only n (λ large. absurd (omega (arith, h, large))) ds w)
+    (λ n h before ds w. list-only n (λ _. before) ds w)

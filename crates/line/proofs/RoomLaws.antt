@@ -1,10 +1,10 @@
 -- Why the program need not look at more of its input than `room` bytes (specs/Lines.antt): a file longer than the longest is bad, by a test
 -- of its first 16 bytes or by its total length, and so is its beginning, by the same test. So the line of the beginning is the line of the
 -- whole. Assumes nothing.
-use mathlib.Core.Path.{_≡_, refl, sym, ap, _∙_}
+use mathlib.Core.Path.{_≡_, refl, sym, _∙_}
 use mathlib.Core.Bool.{false}
 use mathlib.Core.List.{List, [], _∷_, _++_}
-use Prim.Native.Nat.{ℕ, _+_, _*_, _≤_, _<_}
+use Prim.Native.Nat.{ℕ, _+_, _≤_, _<_}
 use native.Mathlib.Decide.{decLt}
 use native.Mathlib.Omega.{arith}
 use lib.Dec.{leb, eqb}
@@ -15,10 +15,9 @@ use Rattle.numbers.proofs.TestLaws.{and-out}
 use Rattle.hedge.specs.Schema.{mostStates}
 use Rattle.template.specs.Layout.{mostRules, mostSchemaRules, longestFile, byteAt, halfAt, states, ruleCount, schemaCount, endingCount}
 use Rattle.template.specs.Layout.{schemaStart, endingStart, bodiesEnd}
-use Rattle.template.specs.Order.{Test, test, firstFault, orThen, between, headTests, contentsTests, bodies, tests, IsSound, shapeOf, reading}
+use Rattle.template.specs.Order.{Test, test, firstFault, orThen, headTests, contentsTests, bodies, tests, IsSound, shapeOf, reading}
 use Rattle.template.specs.declared.Fault.{Fault}
 use Rattle.template.specs.declared.Fault.the-variants.{Nowhere, At}
-use Rattle.template.specs.declared.Reading.the-variants.{Bad}
 use Rattle.template.proofs.OrderLaws.{first-append, nowhere-holds}
 use Rattle.template.proofs.SoundLaws.{sound-file, sound-length}
 use Rattle.rounds.specs.declared.CheckReply.{CheckReply}

@@ -1,5 +1,5 @@
 -- The promise determines the line and the worktable: the check comes to one reply, and a text is shown by one line. Assumes nothing.
-use mathlib.Core.Path.{_≡_, sym, ap, _∙_, subst}
+use mathlib.Core.Path.{_≡_, sym, _∙_, subst}
 use mathlib.Core.List.{List}
 use Prim.Native.Nat.{ℕ}
 use Rattle.rounds.specs.declared.CheckReply.{CheckReply}

@@ -2,7 +2,7 @@
 -- decimal, with single spaces and a newline.
 use mathlib.Core.Path.{_≡_}
 use mathlib.Core.List.{List, [], _∷_, _++_}
-use Prim.Native.Nat.{ℕ, suc, _+_, _-_, _*_}
+use Prim.Native.Nat.{ℕ, _+_, _-_, _*_}
 use lib.ListN.{length, take, drop, replicate}
 use Rattle.template.specs.Layout.{longestFile}
 use Rattle.rounds.specs.declared.CheckReply.{CheckReply}
