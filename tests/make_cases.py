@@ -397,17 +397,22 @@ def checks():
     page([0] * 17 + [32] * 17, 12, 16)
 
 
-files()
-pages()
-fragments()
-structs()
-bad_file()
-checks()
-here = os.path.join(os.path.dirname(__file__), "..", "crates", "cases")
-with open(os.path.join(here, "stdin"), "wb") as f:
-    for letter, data, _ in cases:
-        f.write(letter.encode() + half(len(data)) + data)
-with open(os.path.join(here, "stdout"), "w") as f:
-    for _, _, line in cases:
-        f.write(line + "\n")
-print(len(cases), "cases")
+def main():
+    files()
+    pages()
+    fragments()
+    structs()
+    bad_file()
+    checks()
+    here = os.path.join(os.path.dirname(__file__), "..", "crates", "cases")
+    with open(os.path.join(here, "stdin"), "wb") as f:
+        for letter, data, _ in cases:
+            f.write(letter.encode() + half(len(data)) + data)
+    with open(os.path.join(here, "stdout"), "w") as f:
+        for _, _, line in cases:
+            f.write(line + "\n")
+    print(len(cases), "cases")
+
+
+if __name__ == "__main__":
+    main()

@@ -1,0 +1,5 @@
+pub mod DecimalLaws
+pub mod ReadLaws
+pub mod LineLaws
+pub mod UniqueLaws
+pub mod RoomLaws
