@@ -17,7 +17,6 @@ use denote.Builtin.{u8}
 use denote.Ref.{RefT}
 use denote.Signature.{namedLft}
 use denote.Slice.{sliceTy, sliceVal, ShrSlice, shr-slice-copy}
-use denote.Struct.Laws as LL
 use denote.Triple.Entry.{onEntry}
 use Rattle.template.specs.declared.Shape.{Shape}
 use Rattle.template.proofs.Shape as S

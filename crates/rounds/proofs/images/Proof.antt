@@ -1,8 +1,5 @@
 -- Of a pass the images are taken out; any other reply has none (AnswerLaws). Assumes nothing.
-use mathlib.Core.Path.{sym, ap}
 use borrow.Author.Needs.{needs}
-use Rattle.rounds.specs.Answers.{images}
-use Rattle.rounds.specs.declared.CheckReply.{CheckReply}
 use Rattle.rounds.proofs.AnswerLaws.{no-images}
 use Rattle.rounds.proofs.images.Statement.{statement}
 use Rattle.rounds.proofs.images.Tie as tie
