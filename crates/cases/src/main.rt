@@ -42,17 +42,13 @@ fn show_shape(s: template::Shape) {
 
 fn show_file(file: &[u8]) {
     let r = template::read(file);
-    match r {
-        template::Reading::Sound(s) => {
-            word(0);
-            word(0);
-            show_shape(s);
-        }
-        template::Reading::Bad(p) => {
-            word(7);
-            last_word(p as u64);
-        }
-    }
+    word(template::answer(r) as u64);
+    let template::Reading::Sound(s) = r else {
+        last_word(template::number(r));
+        return;
+    };
+    word(template::number(r));
+    show_shape(s);
 }
 
 fn answer(a: u32, number: u64) {

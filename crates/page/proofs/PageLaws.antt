@@ -1,8 +1,10 @@
 -- A page's reply from the reply of the same bytes as a fragment. A refusal is the same. Else the bytes spell a word whose reduced form the
 -- summary packs, and what the two tests at the end answer of that form is so of the word (schema/proofs/SchemaLaws.antt). Assumes nothing.
 use mathlib.Core.Path.{_≡_, ap, _∙_, subst}
-use mathlib.Core.List.{List}
+use mathlib.Core.List.{List, [], _∷_}
 use Prim.Native.Nat.{ℕ}
+use types.Run.{OneOf, miss}
+use denote.Enum.Declared.{tagOf}
 use borrow.Author.Needs.{needs}
 use Rattle.words.specs.Tags.{Tag}
 use Rattle.words.specs.Reduced.{Stack, tags, Reduced}
@@ -10,7 +12,7 @@ use Rattle.pieces.specs.declared.Piece.{Piece}
 use Rattle.pieces.specs.Pieces.{mostTags, pieces}
 use Rattle.template.specs.Layout.{nameCount}
 use Rattle.template.specs.Order.{IsSound}
-use Rattle.template.proofs.ShapeLaws.{read-is}
+use Rattle.template.proofs.ShapeLaws.{read-is, bad-at}
 use Rattle.form.specs.Held.{tagCount, formOf, lastOf, Holds}
 use Rattle.form.specs.Endings.{endingOf}
 use Rattle.form.specs.declared.Summary.{Summary}
@@ -24,11 +26,11 @@ use Rattle.reader.proofs.ReadsLaws.{reads-finding}
 use Rattle.summary.specs.declared.FragmentAnswer.{FragmentAnswer}
 use Rattle.summary.specs.declared.FragmentAnswer.the-variants as fragment
 use Rattle.summary.specs.declared.FragmentReply.{FragmentReply}
+use Rattle.summary.proofs.FragmentAnswer.{the-type}
 use Rattle.summary.specs.Fragments.{FragmentAnswers, FragmentSays, FragmentFinds}
 use Rattle.summary.proofs.FragmentLaws.{taught-lore, says-found}
 use Rattle.page.specs.declared.PageReply.{PageReply}
-use Rattle.page.specs.declared.PageReply.the-variants as page
-use Rattle.page.specs.Pages.{PageSays, replyOf}
+use Rattle.page.specs.Pages.{PageSays, replyOf, refusal}
 
 -- ---- the two tests, on the form that a summary packs
 
@@ -58,6 +60,18 @@ end-page f bytes w ending.NotDerived sound all spelled m = (sound, all, (w, spel
 
 -- ---- the replies, from the fragment's
 
+-- the tags of the answers that refuse a fragment: all but the first
+abbrev refusals : List ℕ
+refusals = 1 ∷ 2 ∷ 3 ∷ 4 ∷ []
+
+refusal-says : (f bytes : List ℕ) (a : FragmentAnswer) (s : Summary) → OneOf refusals (tagOf the-type a) → FragmentAnswers f bytes a s
+    → PageSays f bytes (refusal a)
+refusal-says f bytes fragment.Summarised s k says = absurd (miss refusals 0 tt k)
+refusal-says f bytes (fragment.BadFile p) s k (bad, _) = bad
+refusal-says f bytes (fragment.NotATag p) s k (sound, read, _) = (sound, read)
+refusal-says f bytes (fragment.Mismatch p) s k (sound, read, _) = (sound, read)
+refusal-says f bytes (fragment.TooDeep p) s k (sound, read, _) = (sound, read)
+
 module _ (f bytes : List ℕ) (r : FragmentReply) (says : FragmentSays f bytes r) where
   answered : (a : FragmentAnswer) → r .answer ≡ a → FragmentAnswers f bytes a (r .summary)
   answered a e = subst (λ a. FragmentAnswers f bytes a (r .summary)) e says
@@ -73,28 +87,16 @@ module _ (f bytes : List ℕ) (r : FragmentReply) (says : FragmentSays f bytes r
       let end = endingOf lore (formOf (r .summary)) (lastOf (r .summary)) in
       rw is (end-page f bytes (formed .word) end sound all (formed .spelled) (ending-means f lore sound taught (formed .word) _ _ reduces))
 
-  module _ (i : ℕ) where
-    pub bad-page : r .answer ≡ fragment.BadFile i → PageSays f bytes (page.BadFile i)
-    bad-page e = answered (fragment.BadFile i) e .0
-
-    pub no-tag-page : r .answer ≡ fragment.NotATag i → PageSays f bytes (page.NotATag i)
-    no-tag-page e = let (sound, read, z) = answered (fragment.NotATag i) e in (sound, read)
-
-    pub mismatch-page : r .answer ≡ fragment.Mismatch i → PageSays f bytes (page.Mismatch i)
-    mismatch-page e = let (sound, read, z) = answered (fragment.Mismatch i) e in (sound, read)
-
-    pub deep-page : r .answer ≡ fragment.TooDeep i → PageSays f bytes (page.TooDeep i)
-    deep-page e = let (sound, read, z) = answered (fragment.TooDeep i) e in (sound, read)
+  pub refused-page : OneOf refusals (tagOf the-type (r .answer)) → (p : PageReply) → p ≡ refusal (r .answer) → PageSays f bytes p
+  refused-page k p is = rw is (refusal-says f bytes (r .answer) (r .summary) k says)
 
 pub ruleset page-turns = (
   read-is,
+  bad-at,
   taught-lore,
   says-found,
   summarised-holds,
   summarised-page,
-  bad-page,
-  no-tag-page,
-  mismatch-page,
-  deep-page,
+  refused-page,
   needs,
 )

@@ -14,6 +14,8 @@ use Rattle.template.specs.declared.Reading.the-variants.{Bad}
 use Rattle.reader.specs.Reads.{Spelled, AllReadable, refused, no-tag, mismatch, too-many}
 use Rattle.schema.specs.Schemas.{schemaOf, binoidOf}
 use Rattle.summary.specs.Fragments.{ReadUnder}
+use Rattle.summary.specs.declared.FragmentAnswer.{FragmentAnswer}
+use Rattle.summary.specs.declared.FragmentAnswer.the-variants as fragment
 use Rattle.form.specs.declared.Ending.{Ending}
 use Rattle.form.specs.declared.Ending.the-variants as ending
 use Rattle.page.specs.declared.PageReply.{PageReply}
@@ -38,6 +40,14 @@ abbrev pub replyOf : Ending → PageReply
 replyOf ending.Page = Valid
 replyOf ending.Unmatched = Unmatched
 replyOf ending.NotDerived = NotDerived
+
+-- what refused a fragment, as a reply; one that was summarised leaves the page valid so far
+abbrev pub refusal : FragmentAnswer → PageReply
+refusal fragment.Summarised = Valid
+refusal (fragment.BadFile p) = BadFile p
+refusal (fragment.NotATag p) = NotATag p
+refusal (fragment.Mismatch p) = Mismatch p
+refusal (fragment.TooDeep p) = TooDeep p
 
 -- the reply in numbers (Rules, section 9)
 abbrev pub answer : PageReply → ℕ

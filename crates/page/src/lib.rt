@@ -4,7 +4,7 @@ ghost use Rattle.template.specs.Order.{reading};
 ghost use Rattle.template.specs.declared.Reading.the-variants.{Sound};
 ghost use Rattle.form.specs.Held.{formOf, lastOf, Holds};
 ghost use Rattle.form.specs.Endings.{endingOf};
-ghost use Rattle.page.specs.Pages.{PageSays, replyOf, answer, number};
+ghost use Rattle.page.specs.Pages.{PageSays, replyOf, refusal, answer, number};
 
 // What the page reader answers, with the place of the fault.
 pub enum PageReply {
@@ -40,6 +40,19 @@ fn tested(lore: &[u64; lore::LORE], s: form::Summary) -> PageReply
     reply_of(e)
 }
 
+// A refusal while the bytes are read, as the page's reply. A fragment that was summarised is no refusal, and leaves the page valid so far.
+fn refusal(a: summary::FragmentAnswer) -> PageReply
+    ensures { λ r. ⌜ r ≡ refusal a ⌝ }
+{
+    match a {
+        summary::FragmentAnswer::Summarised => PageReply::Valid,
+        summary::FragmentAnswer::BadFile(p) => PageReply::BadFile(p),
+        summary::FragmentAnswer::NotATag(p) => PageReply::NotATag(p),
+        summary::FragmentAnswer::Mismatch(p) => PageReply::Mismatch(p),
+        summary::FragmentAnswer::TooDeep(p) => PageReply::TooDeep(p),
+    }
+}
+
 // Reads a page under a sound file of these numbers.
 fn read_under(file: &[u8], shape: template::Shape, bytes: &[u8]) -> PageReply
     requires { ⌜ reading (now file) ≡ Sound shape ⌝ }
@@ -49,13 +62,10 @@ fn read_under(file: &[u8], shape: template::Shape, bytes: &[u8]) -> PageReply
     schema::teach(file, shape, &mut lore);
     let f = summary::summarise(&lore, shape.names, bytes);
     let a = f.answer;
-    match a {
-        summary::FragmentAnswer::Summarised => tested(&lore, f.summary),
-        summary::FragmentAnswer::BadFile(p) => PageReply::BadFile(p),
-        summary::FragmentAnswer::NotATag(p) => PageReply::NotATag(p),
-        summary::FragmentAnswer::Mismatch(p) => PageReply::Mismatch(p),
-        summary::FragmentAnswer::TooDeep(p) => PageReply::TooDeep(p),
-    }
+    let summary::FragmentAnswer::Summarised = a else {
+        return refusal(a);
+    };
+    tested(&lore, f.summary)
 }
 
 // Reads a page: 7; 10, 11 or 12 where the reading ends; 13; 14; else it is valid (Rules, section 9).
@@ -63,10 +73,10 @@ pub fn read(file: &[u8], bytes: &[u8]) -> PageReply
     ensures { λ r. ⌜ PageSays (now (file .entry)) (now (bytes .entry)) r ⌝ }
 {
     let r = template::read(file);
-    match r {
-        template::Reading::Bad(p) => PageReply::BadFile(p),
-        template::Reading::Sound(shape) => read_under(file, shape, bytes),
-    }
+    let template::Reading::Sound(shape) = r else {
+        return PageReply::BadFile(template::place(r));
+    };
+    read_under(file, shape, bytes)
 }
 
 // The reply in numbers (Rules, section 9).

@@ -96,7 +96,7 @@ fn rounds(
     requires { ⌜ Lent (now file) (now table) budget ⌝ }
     ensures { λ r. ⌜ CheckSays (now (file .entry)) (now (table .entry)) budget r (now (table .exit)) ⌝ }
 {
-    let rules = template::template_rules(file, shape.templates);
+    let rules = view::templates_of(file, shape);
     let mut prev = 0;
     let mut n = 0;
     let mut r = 0;
@@ -131,7 +131,7 @@ fn check_sound(file: &[u8], shape: template::Shape, table: &mut [u64], budget: u
     requires { ⌜ Lent (now file) (now table) budget ⌝ }
     ensures { λ r. ⌜ CheckSays (now (file .entry)) (now (table .entry)) budget r (now (table .exit)) ⌝ }
 {
-    let rules = template::template_rules(file, shape.templates);
+    let rules = view::templates_of(file, shape);
     let productive = useful::productive(rules);
     if !useful::marked(productive, 0) {
         return CheckReply::NoPage;
@@ -158,10 +158,10 @@ pub fn check(file: &[u8], table: &mut [u64], budget: usize) -> CheckReply
         return CheckReply::BadBudget;
     }
     let r = template::read(file);
-    match r {
-        template::Reading::Bad(p) => CheckReply::BadFile(p),
-        template::Reading::Sound(shape) => check_sound(file, shape, table, budget),
-    }
+    let template::Reading::Sound(shape) = r else {
+        return CheckReply::BadFile(template::place(r));
+    };
+    check_sound(file, shape, table, budget)
 }
 
 // The reply in numbers (Rules, section 9).
@@ -202,16 +202,8 @@ pub fn number(r: CheckReply) -> u64
 pub fn images(r: CheckReply) -> u64
     ensures { λ n. ⌜ n ≡ images r ⌝ }
 {
-    match r {
-        CheckReply::Passed(_, n) => n as u64,
-        CheckReply::Mismatch(_) => 0,
-        CheckReply::Invalid(_) => 0,
-        CheckReply::TooDeep(_) => 0,
-        CheckReply::Crowded(_) => 0,
-        CheckReply::OutOfRounds(_) => 0,
-        CheckReply::NoPage => 0,
-        CheckReply::BadFile(_) => 0,
-        CheckReply::BadBudget => 0,
-        CheckReply::ShortTable => 0,
-    }
+    let CheckReply::Passed(_, n) = r else {
+        return 0;
+    };
+    n as u64
 }

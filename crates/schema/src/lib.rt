@@ -12,7 +12,7 @@ pub fn teach(file: &[u8], shape: template::Shape, lore: &mut [u64; lore::LORE])
     requires { ⌜ now lore ≡ zeros (loreLong mostStates) ⌝ }
     ensures { λ r. ⌜ LoreOf (now (file .entry)) (now (lore .exit)) ⌝ }
 {
-    let rules = template::schema_rules(file, shape.templates, shape.schema);
-    let endings = template::ending_states(file, shape.templates, shape.schema, shape.endings);
+    let rules = view::schema_of(file, shape);
+    let endings = view::endings_of(file, shape);
     lore::teach(rules, endings, numbers::wide(shape.states), lore);
 }

@@ -105,14 +105,12 @@ pub fn fragment(file: &[u8], bytes: &[u8]) -> FragmentReply
     ensures { λ r. ⌜ FragmentSays (now (file .entry)) (now (bytes .entry)) r ⌝ }
 {
     let r = template::read(file);
-    match r {
-        template::Reading::Bad(p) => refused(FragmentAnswer::BadFile(p)),
-        template::Reading::Sound(shape) => {
-            let mut lore = [0u64; lore::LORE];
-            schema::teach(file, shape, &mut lore);
-            summarise(&lore, shape.names, bytes)
-        }
-    }
+    let template::Reading::Sound(shape) = r else {
+        return refused(FragmentAnswer::BadFile(template::place(r)));
+    };
+    let mut lore = [0u64; lore::LORE];
+    schema::teach(file, shape, &mut lore);
+    summarise(&lore, shape.names, bytes)
 }
 
 // A name in use is below the number of names, another is 0.
@@ -233,18 +231,16 @@ pub fn join(file: &[u8], left: form::Summary, right: form::Summary) -> JoinReply
     ensures { λ r. ⌜ JoinSays (now (file .entry)) left right r ⌝ }
 {
     let r = template::read(file);
-    match r {
-        template::Reading::Bad(p) => join_refused(JoinAnswer::BadFile(p)),
-        template::Reading::Sound(shape) => {
-            if !is_summary(left, shape.names, numbers::wide(shape.states)) {
-                return join_refused(JoinAnswer::NoSummary);
-            }
-            if !is_summary(right, shape.names, numbers::wide(shape.states)) {
-                return join_refused(JoinAnswer::NoSummary);
-            }
-            join_summaries(file, shape, left, right)
-        }
+    let template::Reading::Sound(shape) = r else {
+        return join_refused(JoinAnswer::BadFile(template::place(r)));
+    };
+    if !is_summary(left, shape.names, numbers::wide(shape.states)) {
+        return join_refused(JoinAnswer::NoSummary);
     }
+    if !is_summary(right, shape.names, numbers::wide(shape.states)) {
+        return join_refused(JoinAnswer::NoSummary);
+    }
+    join_summaries(file, shape, left, right)
 }
 
 // Starts minus ends.
@@ -260,16 +256,14 @@ pub fn net_depth(file: &[u8], s: form::Summary) -> DepthReply
     ensures { λ r. ⌜ DepthSays (now (file .entry)) s r ⌝ }
 {
     let r = template::read(file);
-    match r {
-        template::Reading::Bad(p) => DepthReply::BadFile(p),
-        template::Reading::Sound(shape) => {
-            if !is_summary(s, shape.names, numbers::wide(shape.states)) {
-                return DepthReply::NoSummary;
-            }
-            let c = s.counts;
-            DepthReply::Net(difference(c.starts, c.ends))
-        }
+    let template::Reading::Sound(shape) = r else {
+        return DepthReply::BadFile(template::place(r));
+    };
+    if !is_summary(s, shape.names, numbers::wide(shape.states)) {
+        return DepthReply::NoSummary;
     }
+    let c = s.counts;
+    DepthReply::Net(difference(c.starts, c.ends))
 }
 
 // The replies in numbers (Rules, section 9).
@@ -344,9 +338,8 @@ pub fn depth_number(r: DepthReply) -> u64
 pub fn depth_of(r: DepthReply) -> i32
     ensures { λ z. ⌜ z ≡ netDepth r ⌝ }
 {
-    match r {
-        DepthReply::Net(z) => z,
-        DepthReply::BadFile(_) => 0,
-        DepthReply::NoSummary => 0,
-    }
+    let DepthReply::Net(z) = r else {
+        return 0;
+    };
+    z
 }

@@ -6,7 +6,7 @@ use Prim.Native.Nat.{ℕ, _+_, _*_, _≤_}
 use native.Mathlib.Omega.{arith}
 use Rattle.hedge.specs.Schema.{mostStates, RulesBelow, EndsBelow}
 use Rattle.template.specs.Layout.{nameCount, states, partOf, schemaRules, endingStates}
-use Rattle.template.specs.Order.{IsSound, shapeOf, reading}
+use Rattle.template.specs.Order.{IsSound, shapeOf, reading, number}
 use Rattle.template.specs.declared.Reading.{Reading}
 use Rattle.template.specs.declared.Reading.the-variants.{Sound, Bad}
 use Rattle.template.specs.declared.Shape.{Shape}
@@ -21,6 +21,11 @@ sound-not-bad f p s e = let z : _≡_ {A = ℕ} 0 1 = cc (sym (sound-reading f s
 
 pub read-is : (f : List ℕ) (r a : Reading) → r ≡ reading f → r ≡ a → reading f ≡ a
 read-is f r a e p = sym e ∙ p
+
+-- the place that is taken out of a bad reading is that of the file's first fault
+pub bad-at : (f : List ℕ) (r : Reading) (p q : ℕ) → r ≡ reading f → r ≡ Bad p → q ≡ number r → reading f ≡ Bad q
+bad-at f r p q e told place =
+    sym e ∙ told ∙ ap (λ (n : ℕ). Bad n) (sym (place ∙ ap (λ (r : Reading). number r) told))
 
 module _ (f : List ℕ) (shape : Shape) (sound : reading f ≡ Sound shape) where
   pub shape-sound : IsSound f

@@ -6,6 +6,7 @@ ghost use lib.ListN.{length};
 ghost use Rattle.template.specs.Layout.{halfAt, bodiesEnd, partOf};
 ghost use Rattle.template.specs.Order.{test, between, orThen, firstFault, headTests, contentsTests, isSymbol, symbolHolds};
 ghost use Rattle.template.specs.Order.{fieldTests, width, precedes, ascends, entryTests, bodyTests, bodies, shapeOf, reading};
+ghost use Rattle.template.specs.Order.{answer, number};
 
 // The most nonterminals, template rules and schema rules, and the length of the longest file.
 pub const NONTERMINALS: usize = 64;
@@ -311,6 +312,32 @@ pub fn read(file: &[u8]) -> Reading
         return Reading::Bad(p);
     }
     Reading::Sound(s)
+}
+
+// Where a bad file has its first fault; a sound one has none, and the number is 0.
+pub fn place(r: Reading) -> usize
+    ensures { λ n. ⌜ n ≡ number r ⌝ }
+{
+    let Reading::Bad(p) = r else {
+        return 0;
+    };
+    p
+}
+
+// The reading in answer numbers (Rules, section 9): 0, or 7 with the place.
+pub fn answer(r: Reading) -> u32
+    ensures { λ n. ⌜ n ≡ answer r ⌝ }
+{
+    match r {
+        Reading::Sound(_) => 0,
+        Reading::Bad(_) => 7,
+    }
+}
+
+pub fn number(r: Reading) -> u64
+    ensures { λ n. ⌜ n ≡ number r ⌝ }
+{
+    place(r) as u64
 }
 
 // The part of a file from a place on, empty where the file ends before it does.

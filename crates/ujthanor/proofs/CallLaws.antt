@@ -1,10 +1,14 @@
--- The calls that write a row (specs/Calls.antt), on variables: a row that is too short, or a reply whose summary is written. Every reply's
--- summary has at most 16 tags: that of a refusal is all zeros. Assumes nothing.
-use mathlib.Core.Path.{_≡_, refl}
-use mathlib.Core.List.{List}
+-- The calls (specs/Calls.antt), on variables. Of those that write a row: a row that is too short, or a reply whose summary is written; every
+-- reply's summary has at most 16 tags, and that of a refusal is all zeros. Of the others: what is taken out of a reply that is answered 0,
+-- and what stands for it where the reply is another. Assumes nothing.
+use mathlib.Core.Path.{_≡_, refl, sym, ap, _∙_}
+use mathlib.Core.List.{List, [], _∷_}
 use Prim.Native.Nat.{ℕ, _≤_, _<_}
 use native.Mathlib.Omega.{arith}
+use lib.IntN.{ℤ, pos}
 use lib.ListN.{length}
+use types.Run.{OneOf, miss}
+use denote.Enum.Declared.{tagOf}
 use borrow.Author.Needs.{needs}
 use Rattle.words.specs.Reduced.{Stack}
 use Rattle.pieces.specs.declared.Piece.{Piece}
@@ -15,15 +19,27 @@ use Rattle.worktable.specs.Packed.{rowWidth}
 use Rattle.summary.specs.declared.FragmentAnswer.{FragmentAnswer}
 use Rattle.summary.specs.declared.FragmentAnswer.the-variants as fragment
 use Rattle.summary.specs.declared.FragmentReply.{FragmentReply}
+use Rattle.summary.proofs.FragmentAnswer as Fragment
+use Rattle.summary.proofs.JoinAnswer as Joins
+use Rattle.summary.proofs.DepthReply as Depth
+use Rattle.summary.proofs.DepthLaws.{others as depths, no-depth}
+use Rattle.summary.specs.declared.DepthReply.{DepthReply}
+use Rattle.summary.specs.declared.DepthReply.the-variants as depth
+use Rattle.rounds.specs.declared.CheckReply.{CheckReply}
+use Rattle.rounds.specs.declared.CheckReply.the-variants as check
+use Rattle.rounds.specs.Checks.{CheckSays}
+use Rattle.rounds.specs.Answers.{answer, number, images}
+use Rattle.rounds.proofs.CheckReply as Check
+use Rattle.rounds.proofs.AnswerLaws.{others, no-images}
 use Rattle.summary.specs.declared.JoinAnswer.{JoinAnswer}
 use Rattle.summary.specs.declared.JoinAnswer.the-variants as joined
 use Rattle.summary.specs.declared.JoinReply.{JoinReply}
 use Rattle.summary.specs.Packing.{Packs, zeros}
 use Rattle.summary.specs.Fragments.{FragmentAnswers, FragmentSays}
-use Rattle.summary.specs.Joins.{JoinAnswers, JoinSays}
-use Rattle.summary.specs.Answers.{fragmentAnswer, fragmentNumber, joinAnswer, joinNumber}
+use Rattle.summary.specs.Joins.{JoinAnswers, JoinSays, DepthSays}
+use Rattle.summary.specs.Answers.{fragmentAnswer, fragmentNumber, joinAnswer, joinNumber, depthAnswer, depthNumber, netDepth}
 use Rattle.ujthanor.specs.LentRows.{written, StandsFor}
-use Rattle.ujthanor.specs.Calls.{shortRow, FragmentCalled, JoinCalled}
+use Rattle.ujthanor.specs.Calls.{shortRow, CheckCalled, FragmentCalled, JoinCalled, DepthCalled}
 
 -- ---- the summary of a reply with answer a
 
@@ -70,6 +86,24 @@ pub join-few : (f : List ℕ) (left right : Summary) (r : JoinReply) → JoinSay
     → tagCount (r .summary .counts) ≤ mostTags
 join-few f left right r says = join-made f left right r says .few
 
+-- ---- a reply that is not answered 0: its summary is all zeros
+
+fragment-zeros : (f bytes : List ℕ) (a : FragmentAnswer) (s : Summary) → FragmentAnswers f bytes a s
+    → OneOf (1 ∷ 2 ∷ 3 ∷ 4 ∷ []) (tagOf Fragment.the-type a) → zeros ≡ s
+fragment-zeros f bytes fragment.Summarised s says k = absurd (miss (1 ∷ 2 ∷ 3 ∷ 4 ∷ []) 0 tt k)
+fragment-zeros f bytes (fragment.BadFile p) s (_, e) k = sym e
+fragment-zeros f bytes (fragment.NotATag p) s (_, _, e) k = sym e
+fragment-zeros f bytes (fragment.Mismatch p) s (_, _, e) k = sym e
+fragment-zeros f bytes (fragment.TooDeep p) s (_, _, e) k = sym e
+
+join-zeros : (f : List ℕ) (left right : Summary) (a : JoinAnswer) (s : Summary) → JoinAnswers f left right a s
+    → OneOf (1 ∷ 2 ∷ 3 ∷ 4 ∷ []) (tagOf Joins.the-type a) → zeros ≡ s
+join-zeros f left right joined.Joined s says k = absurd (miss (1 ∷ 2 ∷ 3 ∷ 4 ∷ []) 0 tt k)
+join-zeros f left right (joined.BadFile p) s (_, e) k = sym e
+join-zeros f left right joined.NoSummary s (_, _, e) k = sym e
+join-zeros f left right joined.Mismatch s (_, _, e) k = sym e
+join-zeros f left right joined.TooDeep s (_, _, e) k = sym e
+
 -- ---- a fragment
 
 module _ (f bytes row : List ℕ) (a n : ℕ) (row′ : List ℕ) where
@@ -87,6 +121,12 @@ module _ (f bytes row : List ℕ) (a n : ℕ) (row′ : List ℕ) where
         short-row = λ l. absurd (omega (arith, l, long));
         else-written = λ _. record { reply = r; says = says; answer-is = e; number-is = d; row-is = w };
       }
+
+  pub fragment-refused : (r : FragmentReply) → rowWidth ≤ length row → FragmentSays f bytes r → a ≡ fragmentAnswer (r .answer)
+      → n ≡ fragmentNumber (r .answer) → OneOf (1 ∷ 2 ∷ 3 ∷ 4 ∷ []) (tagOf Fragment.the-type (r .answer)) → row′ ≡ written row zeros
+      → FragmentCalled f bytes row a n row′
+  fragment-refused r long says e d k w =
+      fragment-written r long says e d (w ∙ ap (written row) (fragment-zeros f bytes (r .answer) (r .summary) says k))
 
 -- ---- a join
 
@@ -118,4 +158,55 @@ module _ (f left right row : List ℕ) (a n : ℕ) (row′ : List ℕ) where
             };
       }
 
-pub ruleset calls = (fragment-few, join-few, fragment-short, fragment-written, join-short, join-written, needs)
+  pub join-refused : (l m : Summary) (r : JoinReply) → rowWidth ≤ length row → StandsFor left l → StandsFor right m → JoinSays f l m r
+      → a ≡ joinAnswer (r .answer) → n ≡ joinNumber (r .answer) → OneOf (1 ∷ 2 ∷ 3 ∷ 4 ∷ []) (tagOf Joins.the-type (r .answer))
+      → row′ ≡ written row zeros → JoinCalled f left right row a n row′
+  join-refused l m r long first second says e d k w =
+      join-written l m r long first second says e d (w ∙ ap (written row) (join-zeros f l m (r .answer) (r .summary) says k))
+
+-- ---- a check
+
+module _ (f t : List ℕ) (budget a n m : ℕ) (t′ : List ℕ) (r : CheckReply) (says : CheckSays f t budget r t′) where
+  pub check-passed : (round found : ℕ) → r ≡ check.Passed round found → a ≡ 0 → n ≡ round → m ≡ found → CheckCalled f t budget a n m t′
+  check-passed round found p e d i =
+      record {
+        reply = r;
+        says = says;
+        answer-is = e ∙ ap (λ (r : CheckReply). answer r) (sym p);
+        number-is = d ∙ ap (λ (r : CheckReply). number r) (sym p);
+        images-are = i ∙ ap (λ (r : CheckReply). images r) (sym p);
+      }
+
+  pub check-other : OneOf others (tagOf Check.the-type r) → a ≡ answer r → n ≡ number r → m ≡ 0 → CheckCalled f t budget a n m t′
+  check-other k e d i =
+      record { reply = r; says = says; answer-is = e; number-is = d; images-are = i ∙ no-images r k }
+
+-- ---- a net depth
+
+module _ (f row : List ℕ) (a n : ℕ) (z : ℤ) (s : Summary) (stands : StandsFor row s) (r : DepthReply) (says : DepthSays f s r)
+    (d : n ≡ depthNumber r) where
+  depth-called : a ≡ depthAnswer r → z ≡ netDepth r → DepthCalled f row a n z
+  depth-called e i = record { lent = s; reply = r; row-lent = stands; says = says; answer-is = e; number-is = d; depth-is = i }
+
+  pub depth-measured : (y : ℤ) → r ≡ depth.Net y → a ≡ 0 → z ≡ y → DepthCalled f row a n z
+  depth-measured y p e i =
+      depth-called (e ∙ ap (λ (r : DepthReply). depthAnswer r) (sym p)) (i ∙ ap (λ (r : DepthReply). netDepth r) (sym p))
+
+  pub depth-refused : OneOf depths (tagOf Depth.the-type r) → a ≡ depthAnswer r → z ≡ pos 0 → DepthCalled f row a n z
+  depth-refused k e i = depth-called e (i ∙ no-depth r k)
+
+pub ruleset calls = (
+  fragment-few,
+  join-few,
+  fragment-short,
+  fragment-written,
+  fragment-refused,
+  join-short,
+  join-written,
+  join-refused,
+  check-passed,
+  check-other,
+  depth-measured,
+  depth-refused,
+  needs,
+)

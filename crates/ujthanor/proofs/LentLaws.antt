@@ -6,8 +6,9 @@ use Prim.Native.Nat.{ℕ}
 use lib.ListN.{length, drop}
 use borrow.Author.Needs.{needs}
 use Rattle.form.specs.declared.Summary.{Summary}
-use Rattle.rows.specs.Tables.{rowsOf, tableOf, flat}
-use Rattle.worktable.specs.Packed.{rowWidth, packed, nonterminalIn, summaryIn}
+use Rattle.rows.specs.Tables.{rowsOf, tableOf, flat, cleared}
+use Rattle.worktable.specs.Packed.{rowWidth, bytesIn, packed, nonterminalIn, summaryIn}
+use Rattle.summary.specs.Packing.{zeros}
 use Rattle.ujthanor.specs.LentRows.{written, noSummary, StandsFor}
 
 -- ---- what a lent row stands for
@@ -35,4 +36,9 @@ pub put-first : (s : Summary) (t row t′ : List ℕ) → length row ≡ rowWidt
 put-first s t row t′ long packs e =
     e ∙ front t row ∙ ap (λ (n : ℕ). row ++ drop n t) long ∙ ap (λ (r : List ℕ). r ++ drop rowWidth t) packs
 
-pub ruleset lends = (other-length, other-part, a-row, put-first, needs)
+-- zeros over the first entries are the row of a refusal's summary
+pub put-zeros : (t t′ : List ℕ) → t′ ≡ cleared t 0 rowWidth → t′ ≡ written t zeros
+unfolding cleared packed bytesIn zeros
+put-zeros t t′ e = e
+
+pub ruleset lends = (put-zeros, other-length, other-part, a-row, put-first, needs)

@@ -6,6 +6,7 @@ ghost use lib.ListN.{length};
 ghost use Rattle.pieces.specs.Pieces.{mostTags};
 ghost use Rattle.form.specs.Held.{tagCount};
 ghost use Rattle.worktable.specs.Packed.{rowWidth};
+ghost use Rattle.summary.specs.Packing.{zeros};
 ghost use Rattle.ujthanor.specs.LentRows.{written, noSummary, StandsFor};
 ghost use Rattle.ujthanor.specs.Calls.{CheckCalled, PageCalled, FragmentCalled, JoinCalled, DepthCalled};
 
@@ -24,8 +25,13 @@ pub extern "C" fn ujthanor_check(
     ensures { λ r. ⌜ CheckCalled (now (file .entry)) (now (table .entry)) budget r (now (number .exit)) (now (images .exit)) (now (table .exit)) ⌝ }
 {
     let r = rounds::check(file, table, budget);
-    *number = rounds::number(r);
-    *images = rounds::images(r);
+    let rounds::CheckReply::Passed(round, found) = r else {
+        *number = rounds::number(r);
+        *images = 0;
+        return rounds::answer(r);
+    };
+    *number = round as u64;
+    *images = found as u64;
     rounds::answer(r)
 }
 
@@ -52,6 +58,14 @@ fn put_summary(row: &mut [u64], s: form::Summary)
     rows::add(row, 0, &packed);
 }
 
+// Writes the row of a refusal's summary over the first entries: all zeros.
+fn put_zeros(row: &mut [u64])
+    requires { ⌜ rowWidth ≤ length (now row) ⌝ }
+    ensures { λ r. ⌜ now (row .exit) ≡ written (now (row .entry)) zeros ⌝ }
+{
+    rows::clear(row, 0, worktable::ROW);
+}
+
 // Summarises a fragment: the answer and its number; the summary in the row. A row that is too short is refused first, with 17.
 #[no_mangle]
 pub extern "C" fn ujthanor_fragment(
@@ -67,9 +81,13 @@ pub extern "C" fn ujthanor_fragment(
         return SHORT_ROW;
     }
     let r = summary::fragment(file, bytes);
-    put_summary(row, r.summary);
     let a = r.answer;
     *number = summary::fragment_number(a);
+    let summary::FragmentAnswer::Summarised = a else {
+        put_zeros(row);
+        return summary::fragment_answer(a);
+    };
+    put_summary(row, r.summary);
     summary::fragment_answer(a)
 }
 
@@ -122,9 +140,13 @@ pub extern "C" fn ujthanor_join(
     let first = lent(left);
     let second = lent(right);
     let j = summary::join(file, first, second);
-    put_summary(row, j.summary);
     let a = j.answer;
     *number = summary::join_number(a);
+    let summary::JoinAnswer::Joined = a else {
+        put_zeros(row);
+        return summary::join_answer(a);
+    };
+    put_summary(row, j.summary);
     summary::join_answer(a)
 }
 
@@ -141,6 +163,10 @@ pub extern "C" fn ujthanor_net_depth(
     let s = lent(row);
     let d = summary::net_depth(file, s);
     *number = summary::depth_number(d);
-    *depth = summary::depth_of(d);
+    let summary::DepthReply::Net(z) = d else {
+        *depth = 0;
+        return summary::depth_answer(d);
+    };
+    *depth = z;
     summary::depth_answer(d)
 }

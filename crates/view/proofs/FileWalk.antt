@@ -36,12 +36,12 @@ use denote.Triple.Walked.{says, Stays, stay-none-slice, walkOf, goes-none-slice,
 use denote.Exit.{yes}
 use denote.Triple.Clauses.{Clauses, ensured, lasts, closing}
 use Rattle.template.specs.Order.{reading}
-use Rattle.template.specs.declared.Reading.{Reading}
+use Rattle.view.specs.Views.{viewOf, counted}
 use Rattle.view.specs.declared.View.{View}
 use Rattle.view.proofs.View as T
 use Rattle.view.proofs.View.Laws as T′
-use Rattle.view.proofs.LentWalk.{Lent, lent, Own, Entry, lent-goes}
-use Rattle.view.proofs.GetterWalk.{Viewed, slice, getter-says, Getter}
+use Rattle.view.proofs.LentWalk.{slice, Viewed, Lent, lent, Own, Entry, lent-goes}
+use Rattle.view.proofs.GetterWalk.{getter-says, Getter}
 use Rattle.view.proofs.shown as shown
 use Rattle.view.proofs.shown.Symbol.{name as #shown}
 use Rattle.view.proofs.templates as getter
@@ -71,8 +71,8 @@ module _ {M : Type 1} (𝓤 : URA M) where
     abbrev pub Shown : Contract 𝓤
     Shown = tripleOf 𝓤 H A shown.signature (shown.spec 𝓤 H A mem run)
 
-module _ {M : Type 1} (𝓤 : URA M) (list : List ℕ → Reading → List ℕ) (held : List ℕ → List ℕ)
-    (law : (f : List ℕ) → list f (reading f) ≡ held f)
+module _ {M : Type 1} (𝓤 : URA M) (list : View → List ℕ) (held : List ℕ → List ℕ)
+    (law : (s : RefT (List ℕ)) → list (viewOf s (counted (reading (now s)))) ≡ held (now s))
     (H : Heap 𝓤) (A : Atoms 𝓤) (W : Given 𝓤 H A) (mem : Memory → SProp 𝓤) (run : Routine → Fun 𝓤) where
   module _ (κ : Lft) (q : Share) (s : RefT (List ℕ)) where
     -- what is said of the result
@@ -92,7 +92,7 @@ module _ {M : Type 1} (𝓤 : URA M) (list : List ℕ → Reading → List ℕ) 
 
     -- what is known of the view
     abbrev Made : View → Type 0
-    Made r = (r .file ≡ s) × (r .reading ≡ reading (now s))
+    Made r = r ≡ viewOf s (counted (reading (now s)))
 
     shown-said : (r : View) → ent 𝓤 (ensured 𝓤 H A shown.ended (shown.clauses 𝓤 H A mem run) (κ, tt) (s, tt) tt r) (fact 𝓤 (Made r))
     shown-said r = exE 𝓤 _ (λ ws. snd∗ 𝓤 (sem 𝓤 H A (lasts shown.ended (κ, tt) (s, tt) ws)) (fact 𝓤 (Made r)))
@@ -108,7 +108,7 @@ module _ {M : Type 1} (𝓤 : URA M) (list : List ℕ → Reading → List ℕ) 
         nothing ! $ move ! (1 ∷ 0 ∷ []) $ fjoin ! $ move ! (1 ∷ 0 ∷ []) $ join ! $ frame ! $ done !
 
     abbrev Got : View → RefT (List ℕ) → Type 0
-    Got r t = now t ≡ list (now (r .file)) (r .reading)
+    Got r t = now t ≡ list r
 
     getter-said : (r : View) (t : RefT (List ℕ))
         → ent 𝓤 (ensured 𝓤 H A getter.ended (getter-says 𝓤 list) (κ, tt) (r, tt) tt t) (fact 𝓤 (Got r t))
@@ -116,7 +116,7 @@ module _ {M : Type 1} (𝓤 : URA M) (list : List ℕ → Reading → List ℕ) 
 
     -- of the two together: the list of the file
     found : (r : View) (t : RefT (List ℕ)) → Made r → Got r t → Found t
-    found r t e e′ = e′ ∙ (ap (λ (x : RefT (List ℕ)). list (now x) (r .reading)) (e .0) ∙ (ap (list (now s)) (e .1) ∙ law (now s)))
+    found r t e e′ = e′ ∙ (ap list e ∙ law s)
 
     exits : (t : RefT (List ℕ)) (u : Val) → Found t
         → ent 𝓤 (⋆ 𝓤 H A (‵ (Lent κ .own t (u ∷ [])) ∷ (‵ (flft κ q) ⊛ ‵ ftrue) ∷ ‵ (Own κ s) ∷ [])) (Post u)

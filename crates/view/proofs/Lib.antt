@@ -1,4 +1,5 @@
 pub mod ShownLaws
 mod LentWalk
 mod GetterWalk
+mod NumberedWalk
 mod FileWalk

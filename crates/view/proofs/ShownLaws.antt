@@ -1,46 +1,53 @@
 -- What a view of a file shows is the file's three lists: the numbers of a sound reading are the file's own counts. The law goes by the
--- first fault: where there is none both sides are the list, where there is one both are empty.
+-- first fault: where there is none both sides are the list, where there is one both are empty, since the view counts no entries.
 -- And the three lists of a sound file stand in it one after the other, behind the head and the contents, without gaps: each part is cut
 -- off the rest of the file, and after the last one nothing is left. Assumes nothing.
 use mathlib.Core.Path.{_≡_, refl, sym, ap, _∙_}
+use mathlib.Core.Bool.{Bool, true, false}
 use mathlib.Core.List.{List, [], _++_, append-nil}
 use Prim.Native.Nat.{ℕ, _+_, _*_, _≤_}
 use native.Mathlib.Omega.{arith}
+use lib.Dec.{leb}
 use lib.ListN.{length, take, drop, drop-of-length-le, take-append-drop}
 use lib.Seq.{drop-drop}
 use Rattle.template.specs.declared.Fault.{Fault}
 use Rattle.template.specs.declared.Fault.the-variants.{Nowhere, At}
-use Rattle.template.specs.declared.Reading.{Reading}
-use Rattle.template.specs.declared.Reading.the-variants.{Sound, Bad}
+use Rattle.template.specs.declared.Shape.{Shape}
 use Rattle.template.specs.Layout.{ruleCount, schemaCount, endingCount, schemaStart, endingStart, bodiesEnd}
-use Rattle.template.specs.Layout.{partOf, templateRules, schemaRules, endingStates}
+use Rattle.template.specs.Layout.{pickPart, partOf, templateRules, schemaRules, endingStates}
 use Rattle.template.specs.Order.{tests, firstFault, shapeOf, verdict, reading, IsSound}
 use Rattle.template.proofs.ListLaws.{part-is}
 use Rattle.template.proofs.SoundLaws.{sound-reading, sound-file}
-use Rattle.view.specs.Views.{templatesListed, schemaListed, endingsListed, ofSound, templatesIn, schemaIn, endingsIn}
+use Rattle.view.specs.Views.{templatesOf, schemaOf, endingsOf, none, counted, ofSound, templatesIn, schemaIn, endingsIn}
 
--- a list that a sound reading gives and a bad one does not
-module _ (list : List ℕ → Reading → List ℕ) (held : List ℕ → List ℕ) (sound : (f : List ℕ) → list f (Sound (shapeOf f)) ≡ held f)
-    (bad : (f : List ℕ) (p : ℕ) → list f (Bad p) ≡ []) where
-  shown-by : (f : List ℕ) (x : Fault) → list f (verdict x (shapeOf f)) ≡ ofSound (verdict x (shapeOf f)) (held f)
+-- a part of no entries is empty
+none-picked : (b : Bool) → pickPart b [] ≡ []
+none-picked true = refl
+none-picked false = refl
+
+empty-part : (f : List ℕ) (at : ℕ) → partOf f at 0 ≡ []
+unfolding partOf
+empty-part f at = none-picked (leb (at + 0) (length f))
+
+-- a list that is the file's own by its own numbers, and empty by none
+module _ (list : List ℕ → Shape → List ℕ) (held : List ℕ → List ℕ) (sound : (f : List ℕ) → list f (shapeOf f) ≡ held f)
+    (bad : (f : List ℕ) → list f none ≡ []) where
+  shown-by : (f : List ℕ) (x : Fault) → list f (counted (verdict x (shapeOf f))) ≡ ofSound (verdict x (shapeOf f)) (held f)
   shown-by f Nowhere = sound f
-  shown-by f (At p) = bad f p
+  shown-by f (At p) = bad f
 
-  shown-held : (f : List ℕ) → list f (reading f) ≡ ofSound (reading f) (held f)
+  shown-held : (f : List ℕ) → list f (counted (reading f)) ≡ ofSound (reading f) (held f)
   unfolding reading
   shown-held f = shown-by f (firstFault (tests f))
 
-pub templates-shown : (f : List ℕ) → templatesListed f (reading f) ≡ templatesIn f
-unfolding templatesListed
-templates-shown = shown-held templatesListed templateRules (λ f. refl) (λ f p. refl)
+pub templates-shown : (f : List ℕ) → templatesOf f (counted (reading f)) ≡ templatesIn f
+templates-shown = shown-held templatesOf templateRules (λ f. refl) (λ f. empty-part f 16)
 
-pub schema-shown : (f : List ℕ) → schemaListed f (reading f) ≡ schemaIn f
-unfolding schemaListed
-schema-shown = shown-held schemaListed schemaRules (λ f. refl) (λ f p. refl)
+pub schema-shown : (f : List ℕ) → schemaOf f (counted (reading f)) ≡ schemaIn f
+schema-shown = shown-held schemaOf schemaRules (λ f. refl) (λ f. empty-part f 16)
 
-pub endings-shown : (f : List ℕ) → endingsListed f (reading f) ≡ endingsIn f
-unfolding endingsListed
-endings-shown = shown-held endingsListed endingStates (λ f. refl) (λ f p. refl)
+pub endings-shown : (f : List ℕ) → endingsOf f (counted (reading f)) ≡ endingsIn f
+endings-shown = shown-held endingsOf endingStates (λ f. refl) (λ f. empty-part f 16)
 
 -- a part and the rest of the file behind it, the last part, and all three
 part-then : (f xs : List ℕ) (at len : ℕ) → at + len ≤ length f → xs ≡ drop (at + len) f → partOf f at len ++ xs ≡ drop at f

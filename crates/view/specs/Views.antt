@@ -1,23 +1,45 @@
--- The three lists that a view shows. Document 01: "A sound file is shown as three lists that are parts of the lent file and no copies."
+-- The three lists that a view shows (Rules, section 4): parts of the lent file and no copies.
 use mathlib.Core.List.{List, []}
 use Prim.Native.Nat.{ℕ, _+_, _*_}
+use denote.Ref.{RefT, now}
 use Rattle.template.specs.Layout.{firstBody, partOf, templateRules, schemaRules, endingStates}
 use Rattle.template.specs.Order.{reading}
 use Rattle.template.specs.declared.Reading.{Reading}
 use Rattle.template.specs.declared.Reading.the-variants.{Sound, Bad}
+use Rattle.template.specs.declared.Shape.{Shape}
+use Rattle.view.specs.declared.View.{View}
 
--- what is shown of a file that was read so: the parts that its numbers say, and nothing of a bad one
-unfoldable pub templatesListed : List ℕ → Reading → List ℕ
-templatesListed f (Sound s) = partOf f firstBody (4 * s .templates)
-templatesListed f (Bad p) = []
+-- the parts of a file that its numbers say: the template rules first, the schema rules behind them, the ending states behind both
+abbrev pub templatesOf : List ℕ → Shape → List ℕ
+templatesOf f s = partOf f firstBody (4 * s .templates)
 
-unfoldable pub schemaListed : List ℕ → Reading → List ℕ
-schemaListed f (Sound s) = partOf f (firstBody + 4 * s .templates) (4 * s .schema)
-schemaListed f (Bad p) = []
+abbrev pub schemaOf : List ℕ → Shape → List ℕ
+schemaOf f s = partOf f (firstBody + 4 * s .templates) (4 * s .schema)
 
-unfoldable pub endingsListed : List ℕ → Reading → List ℕ
-endingsListed f (Sound s) = partOf f (firstBody + 4 * s .templates + 4 * s .schema) (s .endings)
-endingsListed f (Bad p) = []
+abbrev pub endingsOf : List ℕ → Shape → List ℕ
+endingsOf f s = partOf f (firstBody + 4 * s .templates + 4 * s .schema) (s .endings)
+
+-- the parts that a view shows, by its own counts
+abbrev pub templatesShown : View → List ℕ
+templatesShown v = partOf (now (v .file)) firstBody (4 * v .templates)
+
+abbrev pub schemaShown : View → List ℕ
+schemaShown v = partOf (now (v .file)) (firstBody + 4 * v .templates) (4 * v .schema)
+
+abbrev pub endingsShown : View → List ℕ
+endingsShown v = partOf (now (v .file)) (firstBody + 4 * v .templates + 4 * v .schema) (v .endings)
+
+-- the view of a lent file with these numbers
+abbrev pub viewOf : RefT (List ℕ) → Shape → View
+viewOf f s = record { file = f; templates = s .templates; schema = s .schema; endings = s .endings }
+
+-- the numbers of a file that was read so: a bad one is shown with none
+abbrev pub none : Shape
+none = record { names = 0; nonterminals = 0; states = 0; templates = 0; schema = 0; endings = 0 }
+
+abbrev pub counted : Reading → Shape
+counted (Sound s) = s
+counted (Bad p) = none
 
 -- the list where the file is sound, nothing where it is bad
 abbrev pub ofSound : Reading → List ℕ → List ℕ

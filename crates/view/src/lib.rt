@@ -1,101 +1,108 @@
-// A template file shown as its three lists, which are parts of the lent file and no copies. A view holds the file and what reading it
-// answered; the lists of a bad file are empty. Each function takes the view apart and calls a covered one on the slice and the reading.
+// A template file shown as its three lists, which are parts of the lent file and no copies (Rules, section 4). A view holds the file and
+// how many entries each list has. A getter takes the view apart and calls a covered function on the slice and the numbers.
 ghost use mathlib.Core.Path.{_≡_};
-ghost use mathlib.Core.List.{[]};
 ghost use Rattle.template.specs.Order.{reading};
-ghost use Rattle.view.specs.Views.{templatesListed, schemaListed, endingsListed, templatesIn, schemaIn, endingsIn};
+ghost use Rattle.view.specs.Views.{viewOf, counted, templatesShown, schemaShown, endingsShown};
+ghost use Rattle.view.specs.Views.{templatesOf, schemaOf, endingsOf, templatesIn, schemaIn, endingsIn};
 
-// The file, and what reading it answered: sound with its numbers, or bad (answer 7) with the place of its first fault.
+// The file, and how many template rules, schema rules and ending states it has.
 pub struct View<'a> {
     pub file: &'a [u8],
-    pub reading: template::Reading,
+    pub templates: u16,
+    pub schema: u16,
+    pub endings: u16,
 }
 
-// Nothing of a file.
-fn empty(file: &[u8]) -> &[u8]
-    ensures { λ r. ⌜ now r ≡ [] ⌝ }
+// The view of a file with these numbers.
+pub fn made<'a>(file: &'a [u8], shape: template::Shape) -> View<'a>
+    ensures { λ r. ⌜ r ≡ viewOf (file .entry) shape ⌝ }
 {
-    &file[0..0]
-}
-
-// The template rules of a file that was read so.
-pub fn templates_of(file: &[u8], reading: template::Reading) -> &[u8]
-    ensures { λ r. ⌜ now r ≡ templatesListed (now (file .entry)) reading ⌝ }
-{
-    match reading {
-        template::Reading::Sound(s) => template::template_rules(file, s.templates),
-        template::Reading::Bad(_) => empty(file),
+    View {
+        file,
+        templates: shape.templates,
+        schema: shape.schema,
+        endings: shape.endings,
     }
 }
 
-// The schema rules of a file that was read so.
-pub fn schema_of(file: &[u8], reading: template::Reading) -> &[u8]
-    ensures { λ r. ⌜ now r ≡ schemaListed (now (file .entry)) reading ⌝ }
+// The numbers of a lent file. A bad one has none, so that it is shown with empty lists.
+fn counts(file: &[u8]) -> template::Shape
+    ensures { λ s. ⌜ s ≡ counted (reading (now (file .entry))) ⌝ }
 {
-    match reading {
-        template::Reading::Sound(s) => template::schema_rules(file, s.templates, s.schema),
-        template::Reading::Bad(_) => empty(file),
-    }
-}
-
-// The ending states of a file that was read so.
-pub fn endings_of(file: &[u8], reading: template::Reading) -> &[u8]
-    ensures { λ r. ⌜ now r ≡ endingsListed (now (file .entry)) reading ⌝ }
-{
-    match reading {
-        template::Reading::Sound(s) => {
-            template::ending_states(file, s.templates, s.schema, s.endings)
-        }
-        template::Reading::Bad(_) => empty(file),
-    }
+    let r = template::read(file);
+    let template::Reading::Sound(shape) = r else {
+        return template::Shape {
+            names: 0,
+            nonterminals: 0,
+            states: 0,
+            templates: 0,
+            schema: 0,
+            endings: 0,
+        };
+    };
+    shape
 }
 
 // Reads a file and shows it: any bytes may be lent.
 pub fn shown<'a>(file: &'a [u8]) -> View<'a>
-    ensures { λ r. ⌜ (r .file ≡ file .entry) × (r .reading ≡ reading (now (file .entry))) ⌝ }
+    ensures { λ r. ⌜ r ≡ viewOf (file .entry) (counted (reading (now (file .entry)))) ⌝ }
 {
-    View {
-        file,
-        reading: template::read(file),
-    }
+    made(file, counts(file))
 }
 
 // The template rules, as a part of the lent file.
 pub fn templates<'a>(v: View<'a>) -> &'a [u8]
-    ensures { λ r. ⌜ now r ≡ templatesListed (now (v .entry .file)) (v .entry .reading) ⌝ }
+    ensures { λ r. ⌜ now r ≡ templatesShown (v .entry) ⌝ }
 {
-    templates_of(v.file, v.reading)
+    template::template_rules(v.file, v.templates)
 }
 
-// The schema rules, as a part of the lent file.
+// The schema rules, behind the template rules.
 pub fn schema<'a>(v: View<'a>) -> &'a [u8]
-    ensures { λ r. ⌜ now r ≡ schemaListed (now (v .entry .file)) (v .entry .reading) ⌝ }
+    ensures { λ r. ⌜ now r ≡ schemaShown (v .entry) ⌝ }
 {
-    schema_of(v.file, v.reading)
+    template::schema_rules(v.file, v.templates, v.schema)
 }
 
-// The ending states, as a part of the lent file.
+// The ending states, behind both.
 pub fn endings<'a>(v: View<'a>) -> &'a [u8]
-    ensures { λ r. ⌜ now r ≡ endingsListed (now (v .entry .file)) (v .entry .reading) ⌝ }
+    ensures { λ r. ⌜ now r ≡ endingsShown (v .entry) ⌝ }
 {
-    endings_of(v.file, v.reading)
+    template::ending_states(v.file, v.templates, v.schema, v.endings)
 }
 
-// The template rules of a lent file, by its view: those of a sound file, none of a bad one.
+// The lists of a file with these numbers, by its view.
+pub fn templates_of(file: &[u8], shape: template::Shape) -> &[u8]
+    ensures { λ r. ⌜ now r ≡ templatesOf (now (file .entry)) shape ⌝ }
+{
+    templates(made(file, shape))
+}
+
+pub fn schema_of(file: &[u8], shape: template::Shape) -> &[u8]
+    ensures { λ r. ⌜ now r ≡ schemaOf (now (file .entry)) shape ⌝ }
+{
+    schema(made(file, shape))
+}
+
+pub fn endings_of(file: &[u8], shape: template::Shape) -> &[u8]
+    ensures { λ r. ⌜ now r ≡ endingsOf (now (file .entry)) shape ⌝ }
+{
+    endings(made(file, shape))
+}
+
+// The lists of any lent file, by its view: those of a sound file, none of a bad one.
 pub fn templates_in(file: &[u8]) -> &[u8]
     ensures { λ r. ⌜ now r ≡ templatesIn (now (file .entry)) ⌝ }
 {
     templates(shown(file))
 }
 
-// The schema rules of a lent file, by its view.
 pub fn schema_in(file: &[u8]) -> &[u8]
     ensures { λ r. ⌜ now r ≡ schemaIn (now (file .entry)) ⌝ }
 {
     schema(shown(file))
 }
 
-// The ending states of a lent file, by its view.
 pub fn endings_in(file: &[u8]) -> &[u8]
     ensures { λ r. ⌜ now r ≡ endingsIn (now (file .entry)) ⌝ }
 {

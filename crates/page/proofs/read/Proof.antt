@@ -9,19 +9,20 @@ read-requires c κs = search page-turns
 enum-known-r : tie.Need-enum-known-r
 enum-known-r c = search page-turns
 
-enum-known-r-2 : tie.Need-enum-known-r-2
-enum-known-r-2 c = search page-turns
+enum-told : tie.Need-enum-told
+enum-told c = search page-turns
 
-read-under-requires : tie.Need-read-under-requires
-read-under-requires c κs = search page-turns
+place-requires : tie.Need-place-requires
+place-requires c κs = search page-turns
 
 returns : tie.Need-returns
 returns c = search page-turns
+
+read-under-requires : tie.Need-read-under-requires
+read-under-requires c κs = search page-turns
 
 returns-2 : tie.Need-returns-2
 returns-2 c = search page-turns
 
 pub read-spec : {M : Type 1} → statement M
-read-spec =
-    tie.close
-    (tie.spec read-requires enum-known-r enum-known-r-2 read-under-requires returns returns-2)
+read-spec = tie.close (tie.spec read-requires enum-known-r enum-told place-requires returns read-under-requires returns-2)

@@ -13,50 +13,17 @@ summarise-requires c κs = search page-turns
 enum-told : tie.Need-enum-told
 enum-told c = search page-turns
 
-tested-requires : tie.Need-tested-requires
-tested-requires c κs = search page-turns
-
-enum-known-a : tie.Need-enum-known-a
-enum-known-a c = search page-turns
-
-enum-known-a-2 : tie.Need-enum-known-a-2
-enum-known-a-2 c = search page-turns
-
-enum-known-a-3 : tie.Need-enum-known-a-3
-enum-known-a-3 c = search page-turns
-
-enum-known-a-4 : tie.Need-enum-known-a-4
-enum-known-a-4 c = search page-turns
+refusal-requires : tie.Need-refusal-requires
+refusal-requires c κs = search page-turns
 
 returns : tie.Need-returns
 returns c = search page-turns
 
+tested-requires : tie.Need-tested-requires
+tested-requires c κs = search page-turns
+
 returns-2 : tie.Need-returns-2
 returns-2 c = search page-turns
 
-returns-3 : tie.Need-returns-3
-returns-3 c = search page-turns
-
-returns-4 : tie.Need-returns-4
-returns-4 c = search page-turns
-
-returns-5 : tie.Need-returns-5
-returns-5 c = search page-turns
-
 pub read-under-spec : {M : Type 1} → statement M
-read-under-spec =
-    tie.close
-    (tie.spec
-    teach-requires
-    summarise-requires
-    enum-told
-    tested-requires
-    enum-known-a
-    enum-known-a-2
-    enum-known-a-3
-    enum-known-a-4
-    returns
-    returns-2
-    returns-3
-    returns-4
-    returns-5)
+read-under-spec = tie.close (tie.spec teach-requires summarise-requires enum-told refusal-requires returns tested-requires returns-2)

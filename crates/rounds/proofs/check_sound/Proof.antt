@@ -9,13 +9,13 @@ use Rattle.rounds.proofs.PartLaws.{of-file, part-in-range, part-few, ma
 use Rattle.rounds.proofs.check_sound.Statement.{statement}
 use Rattle.rounds.proofs.check_sound.Tie as tie
 
-template-rules-requires : tie.Need-template-rules-requires
-template-rules-requires c κs = search needs
+templates-of-requires : tie.Need-templates-of-requires
+templates-of-requires c κs = search needs
 
 productive-requires : tie.Need-productive-requires
 productive-requires c κs =
     let s = c .before .before .before in
-    part-in-range _ (s .pre .0) (c .template-rules .ensures)
+    part-in-range _ (s .pre .0) (c .templates-of .ensures)
 
 marked-requires : tie.Need-marked-requires
 marked-requires c κs = search needs
@@ -26,7 +26,7 @@ returns c =
     let s = p .before .before .before .before in (
       s .pre .1,
       shape-sound _ _ (s .pre .0),
-      unmarked-no-page _ (s .pre .0) (p .before .template-rules .ensures) _ (p .productive .ensures) _ (c .before .marked .ensures)
+      unmarked-no-page _ (s .pre .0) (p .before .templates-of .ensures) _ (p .productive .ensures) _ (c .before .marked .ensures)
           (c .if1 .taken),
       refl,
     )
@@ -35,14 +35,14 @@ reached-requires : tie.Need-reached-requires
 reached-requires c κs =
     let p = c .before .before in
     let s = p .before .before .before .before in
-    (part-in-range _ (s .pre .0) (p .before .template-rules .ensures), p .productive .ensures)
+    (part-in-range _ (s .pre .0) (p .before .templates-of .ensures), p .productive .ensures)
 
 share-requires : tie.Need-share-requires
 share-requires c κs =
     let i = c .before .before in
     let p = i .before .before in
     let s = p .before .before .before .before in
-    let part = p .before .template-rules .ensures in (
+    let part = p .before .templates-of .ensures in (
       part-in-range _ (s .pre .0) part,
       (
         p .productive .ensures,
@@ -65,7 +65,7 @@ rounds-requires c κs =
     let p = i .before .before in
     let s = p .before .before .before .before in
     let f = now (s .args .file) in
-    let part = p .before .template-rules .ensures in (
+    let part = p .before .templates-of .ensures in (
       s .pre .0,
       (
         taught .teach .ensures,
@@ -89,7 +89,7 @@ pub check-sound-spec : {M : Type 1} → statement M
 check-sound-spec =
     tie.close
     (tie.spec
-    template-rules-requires
+    templates-of-requires
     productive-requires
     marked-requires
     returns

@@ -72,7 +72,7 @@ turn e =
       page = s .pre .1 .1 .1 .0;
       state = l .loop .inv .1;
       within = a .before .before .loop-test .taken;
-      walked = of-file (now (s .args .file)) (s .pre .0) (l .before .template-rules .ensures)
+      walked = of-file (now (s .args .file)) (s .pre .0) (l .before .templates-of .ensures)
           (λ rules. Walked (now (s .args .lore)) rules (bookOf (l .loop .table) (l .loop .n)) (a .walk-round .result)
           (a .walk-round .last .1 .1 .1 .0))
           (a .walk-round .ensures);
@@ -87,8 +87,8 @@ decisive e one m q =
 
 -- ---- what the code needs
 
-template-rules-requires : tie.Need-template-rules-requires Inv-loop μ-loop
-template-rules-requires c κs = search needs
+templates-of-requires : tie.Need-templates-of-requires Inv-loop μ-loop
+templates-of-requires c κs = search needs
 
 loop-holds : tie.Need-loop-holds Inv-loop μ-loop
 loop-holds c =
@@ -101,7 +101,7 @@ walk-round-requires c κs =
     let s = start l in
     let f = now (s .args .file) in
     let lore = now (s .args .lore) in
-    let part = l .before .template-rules .ensures in
+    let part = l .before .templates-of .ensures in
     let state = l .loop .inv .1 in
     let round = nextRound (l .loop .r) (l .loop .prev) (l .loop .n) in (
       file-lore f lore (sound s) (s .pre .1 .0),
@@ -191,7 +191,7 @@ rounds-spec =
     (tie.spec
     Inv-loop
     μ-loop
-    template-rules-requires
+    templates-of-requires
     loop-holds
     walk-round-requires
     add-r

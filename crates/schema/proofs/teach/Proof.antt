@@ -3,11 +3,11 @@ use Rattle.schema.proofs.TeachLaws.{teach-turns}
 use Rattle.schema.proofs.teach.Statement.{statement}
 use Rattle.schema.proofs.teach.Tie as tie
 
-schema-rules-requires : tie.Need-schema-rules-requires
-schema-rules-requires c κs = search teach-turns
+schema-of-requires : tie.Need-schema-of-requires
+schema-of-requires c κs = search teach-turns
 
-ending-states-requires : tie.Need-ending-states-requires
-ending-states-requires c κs = search teach-turns
+endings-of-requires : tie.Need-endings-of-requires
+endings-of-requires c κs = search teach-turns
 
 wide-requires : tie.Need-wide-requires
 wide-requires c κs = search teach-turns
@@ -21,4 +21,4 @@ returns c = search teach-turns
 pub teach-spec : {M : Type 1} → statement M
 teach-spec =
     tie.close
-    (tie.spec schema-rules-requires ending-states-requires wide-requires teach-requires returns)
+    (tie.spec schema-of-requires endings-of-requires wide-requires teach-requires returns)

@@ -1,7 +1,7 @@
 -- A bad file is refused with its place. Of a sound one the numbers are the file's, so each test says whether a struct is a summary under
 -- it; two summaries are joined. Assumes nothing.
 use borrow.Author.Needs.{needs}
-use Rattle.template.proofs.ShapeLaws.{read-is, shape-sound, states-few}
+use Rattle.template.proofs.ShapeLaws.{read-is, bad-at, shape-sound, states-few}
 use Rattle.summary.proofs.ShapeLaws.{passed-summary, failed-summary}
 use Rattle.summary.proofs.JoinedLaws.{join-bad, join-no-left, join-no-right}
 use Rattle.summary.proofs.join.Statement.{statement}
@@ -13,11 +13,22 @@ read-requires c κs = search needs
 enum-known-r : tie.Need-enum-known-r
 enum-known-r c = search needs
 
+enum-told : tie.Need-enum-told
+enum-told c = search needs
+
+place-requires : tie.Need-place-requires
+place-requires c κs = search needs
+
 join-refused-requires : tie.Need-join-refused-requires
 join-refused-requires c κs = search needs
 
-enum-known-r-2 : tie.Need-enum-known-r-2
-enum-known-r-2 c = search needs
+returns : tie.Need-returns
+returns c =
+    let read = c .before .before .before .before .read in
+    let told = c .before .before .enum-told .given in
+    let args = c .before .before .before .before .before .before .args in
+    join-bad _ (args .left) (args .right) (c .join-refused .result) _ (c .join-refused .ensures)
+    (bad-at _ _ _ _ (read .ensures) (told .1) (c .before .place .ensures))
 
 wide-requires : tie.Need-wide-requires
 wide-requires c κs = search needs
@@ -25,16 +36,16 @@ wide-requires c κs = search needs
 is-summary-requires : tie.Need-is-summary-requires
 is-summary-requires c κs =
     let known = c .before .before in
-    let sound = read-is _ _ _ (known .before .before .read .ensures) (known .r2 .given .1) in
+    let sound = read-is _ _ _ (known .before .before .read .ensures) (known .r .given .1) in
     states-few _ _ sound (c .wide .result) (c .wide .ensures .0)
 
 join-refused-requires-2 : tie.Need-join-refused-requires-2
 join-refused-requires-2 c κs = search needs
 
-returns : tie.Need-returns
-returns c =
+returns-2 : tie.Need-returns-2
+returns-2 c =
     let known = c .before .before .before .before .before in
-    let sound = read-is _ _ _ (known .before .before .read .ensures) (known .r2 .given .1) in
+    let sound = read-is _ _ _ (known .before .before .read .ensures) (known .r .given .1) in
     let args = c .before .before .before .before .before .before .before .before .before .args in
     let wide = c .before .before .before .wide in
     let test = c .before .before .is-summary in
@@ -47,16 +58,16 @@ wide-requires-2 c κs = search needs
 is-summary-requires-2 : tie.Need-is-summary-requires-2
 is-summary-requires-2 c κs =
     let known = c .before .before .before .before .before in
-    let sound = read-is _ _ _ (known .before .before .read .ensures) (known .r2 .given .1) in
+    let sound = read-is _ _ _ (known .before .before .read .ensures) (known .r .given .1) in
     states-few _ _ sound (c .wide2 .result) (c .wide2 .ensures .0)
 
 join-refused-requires-3 : tie.Need-join-refused-requires-3
 join-refused-requires-3 c κs = search needs
 
-returns-2 : tie.Need-returns-2
-returns-2 c =
+returns-3 : tie.Need-returns-3
+returns-3 c =
     let known = c .before .before .before .before .before .before .before .before in
-    let sound = read-is _ _ _ (known .before .before .read .ensures) (known .r2 .given .1) in
+    let sound = read-is _ _ _ (known .before .before .read .ensures) (known .r .given .1) in
     let args = c .before .before .before .before .before .before .before .before .before .before .before .before .args in
     let wide = c .before .before .before .wide2 in
     let test = c .before .before .is-summary2 in
@@ -66,7 +77,7 @@ returns-2 c =
 join-summaries-requires : tie.Need-join-summaries-requires
 join-summaries-requires c κs =
     let known = c .before .before .before .before .before .before .before in
-    let sound = read-is _ _ _ (known .before .before .read .ensures) (known .r2 .given .1) in
+    let sound = read-is _ _ _ (known .before .before .read .ensures) (known .r .given .1) in
     let args = known .before .before .before .before .args in
     let left-wide = c .before .before .before .before .before .wide in
     let left-test = c .before .before .before .before .is-summary in
@@ -81,12 +92,6 @@ join-summaries-requires c κs =
       ),
     )
 
-returns-3 : tie.Need-returns-3
-returns-3 c =
-    let args = c .before .before .before .before .before .before .args in
-    join-bad _ (args .left) (args .right) (c .join-refused .result) _ (c .join-refused .ensures)
-    (read-is _ _ _ (c .before .before .before .before .read .ensures) (c .before .before .r .given .1))
-
 returns-4 : tie.Need-returns-4
 returns-4 c = search needs
 
@@ -96,16 +101,17 @@ join-spec =
     (tie.spec
     read-requires
     enum-known-r
+    enum-told
+    place-requires
     join-refused-requires
-    enum-known-r-2
+    returns
     wide-requires
     is-summary-requires
     join-refused-requires-2
-    returns
+    returns-2
     wide-requires-2
     is-summary-requires-2
     join-refused-requires-3
-    returns-2
-    join-summaries-requires
     returns-3
+    join-summaries-requires
     returns-4)

@@ -3,7 +3,7 @@
 use mathlib.Core.Path.{_∙_, sym}
 use borrow.Author.Needs.{needs}
 use Rattle.form.proofs.HeldLaws.{net-held}
-use Rattle.template.proofs.ShapeLaws.{read-is, shape-sound, states-few}
+use Rattle.template.proofs.ShapeLaws.{read-is, bad-at, shape-sound, states-few}
 use Rattle.summary.proofs.ShapeLaws.{passed-summary, failed-summary}
 use Rattle.summary.proofs.SignedLaws.{difference-again}
 use Rattle.summary.proofs.net_depth.Statement.{statement}
@@ -15,8 +15,14 @@ read-requires c κs = search needs
 enum-known-r : tie.Need-enum-known-r
 enum-known-r c = search needs
 
-enum-known-r-2 : tie.Need-enum-known-r-2
-enum-known-r-2 c = search needs
+enum-told : tie.Need-enum-told
+enum-told c = search needs
+
+place-requires : tie.Need-place-requires
+place-requires c κs = search needs
+
+returns : tie.Need-returns
+returns c = bad-at _ _ _ _ (c .before .before .before .read .ensures) (c .before .enum-told .given .1) (c .place .ensures)
 
 wide-requires : tie.Need-wide-requires
 wide-requires c κs = search needs
@@ -24,13 +30,13 @@ wide-requires c κs = search needs
 is-summary-requires : tie.Need-is-summary-requires
 is-summary-requires c κs =
     let read = c .before .before .before .before .read in
-    let known = c .before .before .r2 .given in
+    let known = c .before .before .r .given in
     states-few _ _ (read-is _ _ _ (read .ensures) (known .1)) (c .wide .result) (c .wide .ensures .0)
 
-returns : tie.Need-returns
-returns c =
+returns-2 : tie.Need-returns-2
+returns-2 c =
     let read = c .before .before .before .before .before .before .read in
-    let known = c .before .before .before .before .r2 .given in
+    let known = c .before .before .before .before .r .given in
     let wide = c .before .before .wide in
     let test = c .before .is-summary in (
       shape-sound _ _ (read-is _ _ _ (read .ensures) (known .1)),
@@ -41,20 +47,17 @@ returns c =
 difference-requires : tie.Need-difference-requires
 difference-requires c κs =
     let read = c .before .before .before .before .before .before .before .read in
-    let known = c .before .before .before .before .before .r2 .given in
+    let known = c .before .before .before .before .before .r .given in
     let wide = c .before .before .before .wide in
     let test = c .before .before .is-summary in
     passed-summary _ _ (read-is _ _ _ (read .ensures) (known .1)) (wide .result) (wide .ensures .0) _ (test .result) (test .ensures)
     (c .before .if1 .left) .few
 
-returns-2 : tie.Need-returns-2
-returns-2 c = sym (c .before .before .before .read .ensures) ∙ c .before .r .given .1
-
 returns-3 : tie.Need-returns-3
 returns-3 c =
     let s = c .before .before .before .before .before .before .before .before .before .before .args .s in
     let read = c .before .before .before .before .before .before .before .before .read in
-    let known = c .before .before .before .before .before .before .r2 .given in
+    let known = c .before .before .before .before .before .before .r .given in
     let wide = c .before .before .before .before .wide in
     let test = c .before .before .before .is-summary in
     let summary = passed-summary _ _ (read-is _ _ _ (read .ensures) (known .1)) (wide .result) (wide .ensures .0) s (test .result)
@@ -68,5 +71,5 @@ returns-3 c =
 pub net-depth-spec : {M : Type 1} → statement M
 net-depth-spec =
     tie.close (
-    tie.spec read-requires enum-known-r enum-known-r-2 wide-requires is-summary-requires returns difference-requires returns-2 returns-3
+    tie.spec read-requires enum-known-r enum-told place-requires returns wide-requires is-summary-requires returns-2 difference-requires returns-3
     )
