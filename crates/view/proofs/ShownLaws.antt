@@ -12,9 +12,9 @@ use Rattle.template.specs.declared.Fault.{Fault}
 use Rattle.template.specs.declared.Fault.the-variants.{Nowhere, At}
 use Rattle.template.specs.declared.Reading.{Reading}
 use Rattle.template.specs.declared.Reading.the-variants.{Sound, Bad}
-use Rattle.template.specs.Layout.{ruleCount, schemaCount, endingCount, schemaStart, endingStart, bodiesEnd}
+use Rattle.template.specs.Layout.{ruleSymbols, ruleCount, schemaCount, endingCount, schemaStart, endingStart, bodiesEnd}
 use Rattle.template.specs.Layout.{partOf, templateRules, schemaRules, endingStates}
-use Rattle.template.specs.Order.{tests, firstFault, shapeOf, verdict, reading, IsSound}
+use Rattle.template.specs.Order.{tests, firstFault, shapeOf, verdict, readingOf, reading, IsSound}
 use Rattle.template.proofs.ListLaws.{part-is}
 use Rattle.template.proofs.SoundLaws.{sound-reading, sound-file}
 use Rattle.view.specs.Views.{templatesListed, schemaListed, endingsListed, ofSound, templatesIn, schemaIn, endingsIn}
@@ -27,8 +27,8 @@ module _ (list : List ℕ → Reading → List ℕ) (held : List ℕ → List �
   shown-by f (At p) = bad f p
 
   shown-held : (f : List ℕ) → list f (reading f) ≡ ofSound (reading f) (held f)
-  unfolding reading
-  shown-held f = shown-by f (firstFault (tests f))
+  unfolding readingOf
+  shown-held f = shown-by f (firstFault (tests ruleSymbols f))
 
 pub templates-shown : (f : List ℕ) → templatesListed f (reading f) ≡ templatesIn f
 unfolding templatesListed
