@@ -18,7 +18,7 @@ use Rattle.hedge.specs.Operations.{same, linked, ended, onePair, fires, wrapped
 use Rattle.hedge.specs.Operations.{unit, compose, wrap, accepts}
 use Rattle.pieces.specs.Pieces.{pieceAt, putPiece}
 use Rattle.template.specs.Layout.{halfAt, partOf}
-use Rattle.template.specs.Order.{IsSound, firstFault, headTests, contentsTests, fieldTests, width, precedes, ascends}
+use Rattle.template.specs.Order.{IsSound, firstFault, headTests, contentsTests, symbolTests, fieldTests, width, precedes, ascends}
 use Rattle.template.specs.Order.{entryTests, bodyTests, bodies, tests}
 use Rattle.form.specs.Held.{tagAt, stackOf}
 use Rattle.form.specs.Held.{tagCount, formOf}
@@ -78,7 +78,7 @@ run (refused u v a n) =
 -- ---- all are run
 
 sound : IsSound K
-unfolding K tests headTests contentsTests bodies bodyTests entryTests fieldTests firstFault ascends precedes width halfAt
+unfolding K tests headTests contentsTests bodies bodyTests entryTests fieldTests symbolTests firstFault ascends precedes width halfAt
 sound = refl
 
 table : map run cases ≡ map stated cases

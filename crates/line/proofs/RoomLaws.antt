@@ -14,8 +14,8 @@ use borrow.Author.Tests.{leb-true, le-leb, ne-eqb}
 use Rattle.numbers.proofs.TestLaws.{and-out}
 use Rattle.hedge.specs.Schema.{mostStates}
 use Rattle.template.specs.Layout.{mostRules, mostSchemaRules, longestFile, byteAt, halfAt, states, ruleCount, schemaCount, endingCount}
-use Rattle.template.specs.Layout.{schemaStart, endingStart, bodiesEnd}
-use Rattle.template.specs.Order.{Test, test, firstFault, orThen, headTests, contentsTests, bodies, tests, IsSound, shapeOf, reading}
+use Rattle.template.specs.Layout.{ruleSymbols, schemaStart, endingStart, bodiesEnd}
+use Rattle.template.specs.Order.{Test, test, firstFault, orThen, headTests, contentsTests, bodies, tests, IsSound, shapeOf, readingOf, reading}
 use Rattle.template.specs.declared.Fault.{Fault}
 use Rattle.template.specs.declared.Fault.the-variants.{Nowhere, At}
 use Rattle.template.proofs.OrderLaws.{first-append, nowhere-holds}
@@ -53,17 +53,17 @@ end-before f head start =
 
 -- the test of the total length, and what comes behind it
 abbrev lastTests : List ℕ → List Test
-lastTests f = test (eqb (length f) (bodiesEnd f)) 0 ∷ bodies f
+lastTests f = test (eqb (length f) (bodiesEnd f)) 0 ∷ bodies ruleSymbols f
 
-contents-split : (f : List ℕ) → contentsTests f ++ bodies f ≡ startTests f ++ lastTests f
+contents-split : (f : List ℕ) → contentsTests ruleSymbols f ++ bodies ruleSymbols f ≡ startTests f ++ lastTests f
 unfolding contentsTests startTests
 contents-split f = refl
 
-tests-split : (f : List ℕ) → firstFault (tests f)
+tests-split : (f : List ℕ) → firstFault (tests ruleSymbols f)
     ≡ orThen (firstFault (headTests f)) (orThen (firstFault (startTests f)) (firstFault (lastTests f)))
 unfolding tests
 tests-split f =
-    first-append (headTests f) (contentsTests f ++ bodies f) ∙ rw (contents-split f, first-append (startTests f) (lastTests f))
+    first-append (headTests f) (contentsTests ruleSymbols f ++ bodies ruleSymbols f) ∙ rw (contents-split f, first-append (startTests f) (lastTests f))
 
 total-fails : (f : List ℕ) → eqb (length f) (bodiesEnd f) ≡ false → firstFault (lastTests f) ≡ At 0
 unfolding firstFault
@@ -81,7 +81,7 @@ last-fault f long Nowhere Nowhere e d =
     let far = end-before f e d in
     total-fails f (ne-eqb (length f) (bodiesEnd f) (λ same. omega (arith, same, far, long)))
 
-long-fault : (f : List ℕ) → longestFile < length f → firstFault (tests f) ≡ longFault f
+long-fault : (f : List ℕ) → longestFile < length f → firstFault (tests ruleSymbols f) ≡ longFault f
 long-fault f long = tests-split f ∙ last-fault f long (firstFault (headTests f)) (firstFault (startTests f)) refl refl
 
 -- ---- its beginning
@@ -115,7 +115,7 @@ module _ (n : ℕ) (f : List ℕ) (some : longestFile < n) (long : n ≤ length 
       (rw (cut-byte 0 (omega arith), cut-byte 1 (omega arith), cut-byte 2 (omega arith)))
 
   pub cut-reading : reading (take n f) ≡ reading f
-  unfolding reading
+  unfolding readingOf
   cut-reading =
       rw (long-fault (take n f) (omega (arith, cut-length)), long-fault f (omega arith), cut-head, cut-start, cut-shape)
 

@@ -10,13 +10,13 @@ use native.Mathlib.Omega.{arith}
 use lib.ListN.{length, take, drop}
 use borrow.Author.Tests.{lt-leb}
 use Rattle.template.specs.Layout.{nameCount, nonterminals, states, ruleCount, schemaCount, endingCount}
-use Rattle.template.specs.Layout.{schemaStart, endingStart, partOf, templateRules, schemaRules, endingStates}
+use Rattle.template.specs.Layout.{ruleWidth, schemaStartOf, endingStartOf, partOf, templateRulesOf, schemaRulesOf, endingStatesOf}
 use Rattle.template.specs.Order.{firstFault, test, fieldTests, width, precedes, ascends, entryTests, bodyTests, body}
 use Rattle.template.specs.declared.Fault.the-variants.{Nowhere}
 use Rattle.template.specs.declared.Body.{Body}
 use Rattle.template.specs.declared.Body.the-variants.{Templates, Schema, Endings}
 use Rattle.template.proofs.OrderLaws.{TestsHold, nowhere-holds, first-nowhere, first-append-nowhere}
-use Rattle.template.proofs.SoundLaws.{SoundFile}
+use Rattle.template.proofs.SoundLaws.{SoundFileOf}
 use Rattle.template.proofs.ListLaws.{entry, part-entry, rules-fit, schema-rules-fit}
 
 -- n entries of the same width, each before the next
@@ -64,7 +64,7 @@ ascends-precedes wide f first i w e =
 
 entry-wide : (b : Body) → 0 < width b
 unfolding width
-entry-wide Templates = omega arith
+entry-wide (Templates symbols) = omega arith
 entry-wide Schema = omega arith
 entry-wide Endings = omega arith
 
@@ -84,17 +84,18 @@ module _ (b : Body) (f : List ℕ) (first n : ℕ) (e : firstFault (body b f fir
       (body-ascends b (nameCount f) (nonterminals f) (states f) f first n e (suc i) k))
 
 -- the three lists of a sound file
-module _ (f : List ℕ) (s : SoundFile f) where
-  pub rules-ascending : EntriesAscend 4 (ruleCount f) (templateRules f)
+module _ {symbols : ℕ} (f : List ℕ) (s : SoundFileOf symbols f) where
+  pub rules-ascending : EntriesAscend (ruleWidth symbols) (ruleCount f) (templateRulesOf symbols f)
   unfolding width
-  rules-ascending = body-ascending Templates f 16 (ruleCount f) (s .rules-pass) (rules-fit f s)
+  rules-ascending = body-ascending (Templates symbols) f 16 (ruleCount f) (s .rules-pass) (rules-fit f s)
 
-  pub schema-rules-ascending : EntriesAscend 4 (schemaCount f) (schemaRules f)
+  pub schema-rules-ascending : EntriesAscend 4 (schemaCount f) (schemaRulesOf symbols f)
   unfolding width
-  schema-rules-ascending = body-ascending Schema f (schemaStart f) (schemaCount f) (s .schema-rules-pass) (schema-rules-fit f s)
+  schema-rules-ascending =
+      body-ascending Schema f (schemaStartOf symbols f) (schemaCount f) (s .schema-rules-pass) (schema-rules-fit f s)
 
-  pub endings-ascending : EntriesAscend 1 (endingCount f) (endingStates f)
+  pub endings-ascending : EntriesAscend 1 (endingCount f) (endingStatesOf symbols f)
   unfolding width
   endings-ascending =
-      subst (λ (len : ℕ). EntriesAscend 1 (endingCount f) (partOf f (endingStart f) len)) (one-mul (endingCount f))
-      (body-ascending Endings f (endingStart f) (endingCount f) (s .endings-pass) (omega arith))
+      subst (λ (len : ℕ). EntriesAscend 1 (endingCount f) (partOf f (endingStartOf symbols f) len)) (one-mul (endingCount f))
+      (body-ascending Endings f (endingStartOf symbols f) (endingCount f) (s .endings-pass) (omega arith))

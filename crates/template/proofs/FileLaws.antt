@@ -5,8 +5,8 @@ use mathlib.Core.List.{List}
 use Prim.Native.Nat.{ℕ, _≤_}
 use borrow.Author.Tests.{leb-true, eqb-true}
 use lib.ListN.{length}
-use Rattle.template.specs.Layout.{ruleCount, schemaCount, endingCount, schemaStart, endingStart, bodiesEnd}
-use Rattle.template.specs.Order.{Test, firstFault, headTests, contentsTests, body, tests, shapeOf, reading}
+use Rattle.template.specs.Layout.{ruleCount, schemaCount, endingCount, schemaStartOf, endingStartOf, bodiesEndOf}
+use Rattle.template.specs.Order.{Test, firstFault, headTests, contentsTests, body, tests, shapeOf, readingOf}
 use Rattle.template.specs.declared.Fault.{Fault}
 use Rattle.template.specs.declared.Fault.the-variants.{Nowhere, At}
 use Rattle.template.specs.declared.Body.{Body}
@@ -22,20 +22,22 @@ pub head-length : (f : List ℕ) → firstFault (headTests f) ≡ Nowhere → 16
 unfolding headTests
 head-length f e = leb-true 16 (length f) (nowhere-holds (headTests f) e .0)
 
-pub contents-length : (f : List ℕ) → firstFault (contentsTests f) ≡ Nowhere → length f ≡ bodiesEnd f
+pub contents-length : (symbols : ℕ) (f : List ℕ) → firstFault (contentsTests symbols f) ≡ Nowhere → length f ≡ bodiesEndOf symbols f
 unfolding contentsTests
-contents-length f e = eqb-true (length f) (bodiesEnd f) (nowhere-holds (contentsTests f) e .1 .1 .1 .1 .1 .1 .0)
+contents-length symbols f e =
+    eqb-true (length f) (bodiesEndOf symbols f) (nowhere-holds (contentsTests symbols f) e .1 .1 .1 .1 .1 .1 .0)
 
 -- the bodies, by the file's own numbers
 
-abbrev pub templateTests : List ℕ → List Test
-templateTests f = body Templates f 16 (ruleCount f)
+module _ (symbols : ℕ) where
+  abbrev pub templateTests : List ℕ → List Test
+  templateTests f = body (Templates symbols) f 16 (ruleCount f)
 
-abbrev pub schemaTests : List ℕ → List Test
-schemaTests f = body Schema f (schemaStart f) (schemaCount f)
+  abbrev pub schemaTests : List ℕ → List Test
+  schemaTests f = body Schema f (schemaStartOf symbols f) (schemaCount f)
 
-abbrev pub endingTests : List ℕ → List Test
-endingTests f = body Endings f (endingStart f) (endingCount f)
+  abbrev pub endingTests : List ℕ → List Test
+  endingTests f = body Endings f (endingStartOf symbols f) (endingCount f)
 
 pub body-of : (b : Body) (f : List ℕ) {s : Shape} {first place n count : ℕ} {e : Fault}
     → e ≡ firstFault (entriesOf b s f first first n)
@@ -44,10 +46,11 @@ body-of b f made shape start size = rw (← size, ← start) (rw shape at made)
 
 -- the verdict
 
-pub answers-bad : (f : List ℕ) {p : ℕ} → At p ≡ firstFault (tests f) → Bad p ≡ reading f
-unfolding reading
-answers-bad f fault = rw (← fault)
+pub answers-bad : (symbols : ℕ) (f : List ℕ) {p : ℕ} → At p ≡ firstFault (tests symbols f) → Bad p ≡ readingOf symbols f
+unfolding readingOf
+answers-bad symbols f fault = rw (← fault)
 
-pub answers-sound : (f : List ℕ) {s : Shape} → s ≡ shapeOf f → Nowhere ≡ firstFault (tests f) → Sound s ≡ reading f
-unfolding reading
-answers-sound f shape none = rw (← none, shape)
+pub answers-sound : (symbols : ℕ) (f : List ℕ) {s : Shape} → s ≡ shapeOf f → Nowhere ≡ firstFault (tests symbols f)
+    → Sound s ≡ readingOf symbols f
+unfolding readingOf
+answers-sound symbols f shape none = rw (← none, shape)

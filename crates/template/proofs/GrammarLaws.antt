@@ -1,7 +1,7 @@
 -- What the lists of a sound file name. Each field of an entry passes its test in the file, and stands in the list (`rules-field` and its
 -- two like): so the schema's states, its names and its ending states are below Q, A and Q. A template rule has its left side below N, at
--- most two symbols, and each is a tag (its name below A) or a nonterminal (below N): a byte that passes `isSymbol` stands for such a symbol,
--- by its three cases, and the two symbol bytes go by the rule's length. Assumes nothing.
+-- most as many symbols as it has places for, and each is a tag (its name below A) or a nonterminal (below N): a byte that passes `isSymbol`
+-- stands for such a symbol, by its three cases. Where a rule has two places, they go by the rule's length. Assumes nothing.
 use mathlib.Core.Path.{_≡_}
 use mathlib.Core.Logic.{⊎-elim}
 use mathlib.Core.Bool.{true, _&&_}
@@ -16,14 +16,15 @@ use Rattle.words.specs.Tags.{Tag, start, end}
 use Rattle.numbers.specs.Fields.{field}
 use Rattle.hedge.specs.Schema.{RulesBelow, EndsBelow}
 use Rattle.template.specs.Layout.{byteAt, nameCount, nonterminals, states, ruleCount, schemaCount, endingCount}
-use Rattle.template.specs.Layout.{schemaStart, endingStart, templateRules, schemaRules, endingStates}
+use Rattle.template.specs.Layout.{ruleWidth, schemaStartOf, endingStartOf, templateRules, schemaRulesOf, endingStatesOf}
 use Rattle.template.specs.Order.{isSymbol, symbolHolds, fieldTests, width}
 use Rattle.template.specs.Grammar.{Symbol, tag, nonterminal, symbolOf, rightSide, Gives}
 use Rattle.template.specs.declared.Body.the-variants.{Templates, Schema, Endings}
 use Rattle.numbers.proofs.TestLaws.{and-out, or-out}
-use Rattle.template.proofs.SoundLaws.{SoundFile}
+use Rattle.template.proofs.RuleLaws.{symbolAt, rule-holds}
+use Rattle.template.proofs.SoundLaws.{SoundFileOf, SoundFile}
 use Rattle.template.proofs.ListLaws.{rules-count, schema-rules-count, endings-length, rules-field, schema-rules-field, endings-at}
-use Rattle.template.proofs.EntryLaws.{fields-hold}
+use Rattle.template.proofs.EntryLaws.{body-fields, fields-hold}
 
 -- a tag of one of A names; a symbol that is such a tag or one of N nonterminals; symbols that all are
 abbrev pub TagBelow : ℕ → Tag → Type 0
@@ -79,15 +80,15 @@ right-length rules i =
     rw (length-map (take (field rules i 1) bytes) symbolOf, length-take (field rules i 1) bytes) (omega arith)
 
 -- the three lists of a sound file
-module _ (f : List ℕ) (s : SoundFile f) where
+module _ {symbols : ℕ} (f : List ℕ) (s : SoundFileOf symbols f) where
   -- a schema rule's four fields
   pub schema-rule-below : (i : ℕ) → i < schemaCount f
-      → (field (schemaRules f) i 0 < states f) × (field (schemaRules f) i 1 < nameCount f)
-      × (field (schemaRules f) i 2 < states f) × (field (schemaRules f) i 3 < states f)
+      → (field (schemaRulesOf symbols f) i 0 < states f) × (field (schemaRulesOf symbols f) i 1 < nameCount f)
+      × (field (schemaRulesOf symbols f) i 2 < states f) × (field (schemaRulesOf symbols f) i 3 < states f)
   unfolding width fieldTests
   schema-rule-below i h =
-      let at = schemaStart f + 4 * i in
-      let p = fields-hold Schema f (schemaStart f) (schemaCount f) (s .schema-rules-pass) i h in
+      let at = schemaStartOf symbols f + 4 * i in
+      let p = fields-hold Schema f (schemaStartOf symbols f) (schemaCount f) (s .schema-rules-pass) i h in
       rw (schema-rules-field f s i 0 h (omega arith), add-zero at, schema-rules-field f s i 1 h (omega arith))
       (rw (schema-rules-field f s i 2 h (omega arith), schema-rules-field f s i 3 h (omega arith)) (
         ltb-true (byteAt f at) (states f) (p .0),
@@ -96,38 +97,57 @@ module _ (f : List ℕ) (s : SoundFile f) where
         ltb-true (byteAt f (at + 3)) (states f) (p .1 .1 .1 .0),
       ))
 
-  pub schema-rules-below : RulesBelow (states f) (schemaRules f)
+  pub schema-rules-below : RulesBelow (states f) (schemaRulesOf symbols f)
   schema-rules-below i h =
       let p = schema-rule-below i (rw (schema-rules-count f s) at h) in
       (p .0, p .2, p .3)
 
-  pub schema-names-below : (i : ℕ) → i < length (schemaRules f) / 4 → field (schemaRules f) i 1 < nameCount f
+  pub schema-names-below : (i : ℕ) → i < length (schemaRulesOf symbols f) / 4 → field (schemaRulesOf symbols f) i 1 < nameCount f
   schema-names-below i h = schema-rule-below i (rw (schema-rules-count f s) at h) .1
 
-  pub endings-below : EndsBelow (states f) (endingStates f)
+  pub endings-below : EndsBelow (states f) (endingStatesOf symbols f)
   unfolding width fieldTests
   endings-below j h =
       let k : j < endingCount f = rw (endings-length f s) at h in
-      let at = endingStart f + 1 * j in
-      let p = fields-hold Endings f (endingStart f) (endingCount f) (s .endings-pass) j k in
+      let at = endingStartOf symbols f + 1 * j in
+      let p = fields-hold Endings f (endingStartOf symbols f) (endingCount f) (s .endings-pass) j k in
       let q = ltb-true (byteAt f at) (states f) (p .0) in
       rw (endings-at f s j k) (rw (one-mul j) at q)
 
-  -- a template rule's left side, length and symbols
+  -- the bytes of a template rule: its left side, its length and its symbols
+  module _ (i : ℕ) (h : i < ruleCount f) where
+    pub rule-bytes : let at = 16 + ruleWidth symbols * i in (byteAt f at < nonterminals f) × (byteAt f (at + 1) ≤ symbols)
+        × ((j : ℕ) → j < symbols → symbolAt (nameCount f) (nonterminals f) f at j ≡ true)
+    unfolding width
+    rule-bytes =
+        rule-holds (nameCount f) (nonterminals f) f (16 + ruleWidth symbols * i) symbols (states f)
+        (body-fields (Templates symbols) (nameCount f) (nonterminals f) (states f) f 16 (ruleCount f) (s .rules-pass) i h)
+
+    pub rule-symbol : (j : ℕ) → j < byteAt f (16 + ruleWidth symbols * i + 1)
+        → SymbolBelow (nameCount f) (nonterminals f) (symbolOf (byteAt f (16 + ruleWidth symbols * i + 2 + j)))
+    rule-symbol j k =
+        let used = lt-ltb j (byteAt f (16 + ruleWidth symbols * i + 1)) k in
+        symbol-below (nameCount f) (nonterminals f) (byteAt f (16 + ruleWidth symbols * i + 2 + j)) (s .few-names)
+        (rw used at (rule-bytes .2 j (omega (arith, rule-bytes .1))))
+
+-- template rules of four bytes
+module _ (f : List ℕ) (s : SoundFile f) where
   pub rule-below : (i : ℕ) → i < ruleCount f
       → (field (templateRules f) i 0 < nonterminals f) × (field (templateRules f) i 1 ≤ 2)
       × SymbolsBelow (nameCount f) (nonterminals f) (rightSide (templateRules f) i)
-  unfolding width fieldTests rightSide
+  unfolding rightSide
   rule-below i h =
       let at = 16 + 4 * i in
-      let p = fields-hold Templates f 16 (ruleCount f) (s .rules-pass) i h in
-      let few = leb-true (byteAt f (at + 1)) 2 (p .1 .0) in
+      let p = rule-bytes f s i h in
+      let first = rw (add-zero (at + 2)) at (p .2 0 (omega arith)) in
+      let third : at + 2 + 1 ≡ at + 3 = omega arith in
+      let second = rw third at (p .2 1 (omega arith)) in
       rw (rules-field f s i 0 h (omega arith), add-zero at, rules-field f s i 1 h (omega arith))
       (rw (rules-field f s i 2 h (omega arith), rules-field f s i 3 h (omega arith)) (
-        ltb-true (byteAt f at) (nonterminals f) (p .0),
-        few,
-        symbols-below (nameCount f) (nonterminals f) (byteAt f (at + 1)) (byteAt f (at + 2)) (byteAt f (at + 3)) (s .few-names) few
-            (p .1 .1 .0) (p .1 .1 .1 .0),
+        p .0,
+        p .1,
+        symbols-below (nameCount f) (nonterminals f) (byteAt f (at + 1)) (byteAt f (at + 2)) (byteAt f (at + 3)) (s .few-names) (p .1) first
+            second,
       ))
 
   pub gives-below : (x : ℕ) (symbols : List Symbol) → Gives (templateRules f) x symbols

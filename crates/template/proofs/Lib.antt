@@ -1,5 +1,6 @@
 pub mod OrderLaws
 pub mod AscentLaws
+pub mod RuleLaws
 pub mod BodyLaws
 pub mod FileLaws
 pub mod PartLaws

@@ -5,17 +5,33 @@ use mathlib.Core.List.{List}
 use Prim.Native.Nat.{ℕ, _+_, _*_, _≤_}
 use native.Mathlib.Omega.{arith}
 use Rattle.hedge.specs.Schema.{mostStates, RulesBelow, EndsBelow}
-use Rattle.template.specs.Layout.{nameCount, states, partOf, schemaRules, endingStates}
-use Rattle.template.specs.Order.{IsSound, shapeOf, reading, number}
+use Rattle.template.specs.Layout.{ruleSymbols, ruleWidth, nameCount, states, partOf, schemaRules, endingStates, schemaRulesOf, endingStatesOf}
+use Rattle.template.specs.Order.{SoundOf, IsSound, shapeOf, readingOf, reading, number}
 use Rattle.template.specs.declared.Reading.{Reading}
 use Rattle.template.specs.declared.Reading.the-variants.{Sound, Bad}
 use Rattle.template.specs.declared.Shape.{Shape}
-use Rattle.template.proofs.SoundLaws.{SoundFile, reading-sound, sound-reading, sound-file}
+use Rattle.template.proofs.SoundLaws.{SoundFile, reading-sound, sound-reading-of, sound-file}
 use Rattle.template.proofs.GrammarLaws.{schema-rules-below, endings-below}
 
 -- a file is sound or bad
+pub sound-not-bad-of : (symbols : ℕ) (f : List ℕ) (p : ℕ) → SoundOf symbols f → readingOf symbols f ≡ Bad p → ⊥
+sound-not-bad-of symbols f p s e = let z : _≡_ {A = ℕ} 0 1 = cc (sym (sound-reading-of symbols f s) ∙ e) in omega arith
+
 pub sound-not-bad : (f : List ℕ) (p : ℕ) → IsSound f → reading f ≡ Bad p → ⊥
-sound-not-bad f p s e = let z : _≡_ {A = ℕ} 0 1 = cc (sym (sound-reading f s) ∙ e) in omega arith
+sound-not-bad = sound-not-bad-of ruleSymbols
+
+-- the parts behind the template rules, by a shape that is the file's
+module _ (symbols : ℕ) (f : List ℕ) (shape : Shape) (is : shape ≡ shapeOf f) where
+  pub rules-are-of : (schema : List ℕ) → schema ≡ partOf f (16 + ruleWidth symbols * shape .templates) (4 * shape .schema)
+      → schema ≡ schemaRulesOf symbols f
+  rules-are-of schema h =
+      h ∙ ap (λ (s : Shape). partOf f (16 + ruleWidth symbols * s .templates) (4 * s .schema)) is
+
+  pub endings-are-of : (endings : List ℕ)
+      → endings ≡ partOf f (16 + ruleWidth symbols * shape .templates + 4 * shape .schema) (shape .endings)
+      → endings ≡ endingStatesOf symbols f
+  endings-are-of endings h =
+      h ∙ ap (λ (s : Shape). partOf f (16 + ruleWidth symbols * s .templates + 4 * s .schema) (s .endings)) is
 
 -- ---- what was read
 
@@ -51,10 +67,10 @@ module _ (f : List ℕ) (shape : Shape) (sound : reading f ≡ Sound shape) wher
     module _ (schema endings : List ℕ) (hs : schema ≡ partOf f (16 + 4 * shape .templates) (4 * shape .schema))
         (he : endings ≡ partOf f (16 + 4 * shape .templates + 4 * shape .schema) (shape .endings)) where
       pub rules-are : schema ≡ schemaRules f
-      rules-are = hs ∙ ap (λ (s : Shape). partOf f (16 + 4 * s .templates) (4 * s .schema)) shape-is
+      rules-are = rules-are-of ruleSymbols f shape shape-is schema hs
 
       pub endings-are : endings ≡ endingStates f
-      endings-are = he ∙ ap (λ (s : Shape). partOf f (16 + 4 * s .templates + 4 * s .schema) (s .endings)) shape-is
+      endings-are = endings-are-of ruleSymbols f shape shape-is endings he
 
       pub rules-below : RulesBelow q schema
       rules-below = rw (states-are, rules-are) (schema-rules-below f shape-file)

@@ -12,7 +12,7 @@ use Rattle.hedge.specs.Schema.{mostStates}
 abbrev pub firstBody : ℕ
 firstBody = 16
 
--- the most nonterminals, template rules and schema rules, and the length of the longest file
+-- the most nonterminals, template rules and schema rules
 abbrev pub mostNonterminals : ℕ
 mostNonterminals = 64
 
@@ -22,8 +22,23 @@ mostRules = 256
 abbrev pub mostSchemaRules : ℕ
 mostSchemaRules = 128
 
+-- a template rule has two symbols; how a file is read is stated for any number of them, and goes up to twelve. Their bytes follow the
+-- rule's left side and its length.
+abbrev pub ruleSymbols : ℕ
+ruleSymbols = 2
+
+abbrev pub mostSymbols : ℕ
+mostSymbols = 12
+
+abbrev pub ruleWidth : ℕ → ℕ
+ruleWidth symbols = 2 + symbols
+
+-- the length of the longest file
+abbrev pub longestFileOf : ℕ → ℕ
+longestFileOf symbols = firstBody + ruleWidth symbols * mostRules + 4 * mostSchemaRules + mostStates
+
 abbrev pub longestFile : ℕ
-longestFile = firstBody + 4 * mostRules + 4 * mostSchemaRules + mostStates
+longestFile = longestFileOf ruleSymbols
 
 -- the byte at a place, and the 16-bit number
 abbrev pub byteAt : List ℕ → ℕ → ℕ
@@ -52,15 +67,26 @@ schemaCount f = halfAt f 10
 abbrev pub endingCount : List ℕ → ℕ
 endingCount f = halfAt f 14
 
--- where the second and the third body begin, and where the last one ends: a rule has 4 bytes, an ending state 1
+-- where the second and the third body begin, and where the last one ends, in a file whose template rules have so many symbols: a schema
+-- rule has 4 bytes, an ending state 1
+module _ (symbols : ℕ) where
+  abbrev pub schemaStartOf : List ℕ → ℕ
+  schemaStartOf f = firstBody + ruleWidth symbols * ruleCount f
+
+  abbrev pub endingStartOf : List ℕ → ℕ
+  endingStartOf f = schemaStartOf f + 4 * schemaCount f
+
+  abbrev pub bodiesEndOf : List ℕ → ℕ
+  bodiesEndOf f = endingStartOf f + endingCount f
+
 abbrev pub schemaStart : List ℕ → ℕ
-schemaStart f = firstBody + 4 * ruleCount f
+schemaStart = schemaStartOf ruleSymbols
 
 abbrev pub endingStart : List ℕ → ℕ
-endingStart f = schemaStart f + 4 * schemaCount f
+endingStart = endingStartOf ruleSymbols
 
 abbrev pub bodiesEnd : List ℕ → ℕ
-bodiesEnd f = endingStart f + endingCount f
+bodiesEnd = bodiesEndOf ruleSymbols
 
 -- a part of the file, empty where the file ends before it does
 abbrev pub pickPart : Bool → List ℕ → List ℕ
@@ -71,11 +97,21 @@ unfoldable pub partOf : List ℕ → ℕ → ℕ → List ℕ
 partOf f at len = pickPart (leb (at + len) (length f)) (take len (drop at f))
 
 -- the three lists, as parts of the file
+module _ (symbols : ℕ) where
+  abbrev pub templateRulesOf : List ℕ → List ℕ
+  templateRulesOf f = partOf f firstBody (ruleWidth symbols * ruleCount f)
+
+  abbrev pub schemaRulesOf : List ℕ → List ℕ
+  schemaRulesOf f = partOf f (schemaStartOf symbols f) (4 * schemaCount f)
+
+  abbrev pub endingStatesOf : List ℕ → List ℕ
+  endingStatesOf f = partOf f (endingStartOf symbols f) (endingCount f)
+
 abbrev pub templateRules : List ℕ → List ℕ
-templateRules f = partOf f firstBody (4 * ruleCount f)
+templateRules = templateRulesOf ruleSymbols
 
 abbrev pub schemaRules : List ℕ → List ℕ
-schemaRules f = partOf f (schemaStart f) (4 * schemaCount f)
+schemaRules = schemaRulesOf ruleSymbols
 
 abbrev pub endingStates : List ℕ → List ℕ
-endingStates f = partOf f (endingStart f) (endingCount f)
+endingStates = endingStatesOf ruleSymbols

@@ -11,7 +11,7 @@ use Rattle.words.specs.Tags.{mostNames}
 use Rattle.hedge.specs.Schema.{mostStates}
 use Rattle.template.specs.Layout.{mostNonterminals, mostRules, mostSchemaRules}
 use Rattle.template.specs.Layout.{byteAt, halfAt, nameCount, nonterminals, states, ruleCount, schemaCount, endingCount}
-use Rattle.template.specs.Layout.{schemaStart, endingStart, bodiesEnd}
+use Rattle.template.specs.Layout.{ruleSymbols, ruleWidth, schemaStartOf, endingStartOf, bodiesEndOf}
 use Rattle.template.specs.declared.Fault.{Fault}
 use Rattle.template.specs.declared.Fault.the-variants.{Nowhere, At}
 use Rattle.template.specs.declared.Body.{Body}
@@ -56,15 +56,15 @@ headTests f =
     ∷ []
 
 -- each body begins where the one before it ends, its count is within its limit, and the last ends with the file
-unfoldable pub contentsTests : List ℕ → List Test
-contentsTests f =
+unfoldable pub contentsTests : ℕ → List ℕ → List Test
+contentsTests symbols f =
     test (eqb (halfAt f 4) 16) 4
     ∷ test (leb (ruleCount f) mostRules) 6
-    ∷ test (eqb (halfAt f 8) (schemaStart f)) 8
+    ∷ test (eqb (halfAt f 8) (schemaStartOf symbols f)) 8
     ∷ test (leb (schemaCount f) mostSchemaRules) 10
-    ∷ test (eqb (halfAt f 12) (endingStart f)) 12
+    ∷ test (eqb (halfAt f 12) (endingStartOf symbols f)) 12
     ∷ test (leb (endingCount f) (states f)) 14
-    ∷ test (eqb (length f) (bodiesEnd f)) 0
+    ∷ test (eqb (length f) (bodiesEndOf symbols f)) 0
     ∷ []
 
 -- a symbol that counts is a start tag, an end tag or a nonterminal of the file; one that does not is 255
@@ -75,14 +75,16 @@ abbrev pub symbolHolds : Bool → ℕ → ℕ → ℕ → Bool
 symbolHolds true A N b = isSymbol A N b
 symbolHolds false A N b = eqb b 255
 
+-- n symbols of the rule at a place, from its symbol j on: those below the rule's length count
+unfoldable pub symbolTests : ℕ → ℕ → List ℕ → ℕ → ℕ → ℕ → List Test
+symbolTests A N f at j zero = []
+symbolTests A N f at j (suc n) =
+    test (symbolHolds (ltb j (byteAt f (at + 1))) A N (byteAt f (at + 2 + j))) (at + 2 + j) ∷ symbolTests A N f at (suc j) n
+
 -- the fields of an entry, left to right, in a file of A names, N nonterminals and Q states
 unfoldable pub fieldTests : Body → ℕ → ℕ → ℕ → List ℕ → ℕ → List Test
-fieldTests Templates A N Q f at =
-    test (ltb (byteAt f at) N) at
-    ∷ test (leb (byteAt f (at + 1)) 2) (at + 1)
-    ∷ test (symbolHolds (ltb 0 (byteAt f (at + 1))) A N (byteAt f (at + 2))) (at + 2)
-    ∷ test (symbolHolds (ltb 1 (byteAt f (at + 1))) A N (byteAt f (at + 3))) (at + 3)
-    ∷ []
+fieldTests (Templates symbols) A N Q f at =
+    test (ltb (byteAt f at) N) at ∷ test (leb (byteAt f (at + 1)) symbols) (at + 1) ∷ symbolTests A N f at 0 symbols
 fieldTests Schema A N Q f at =
     test (ltb (byteAt f at) Q) at
     ∷ test (ltb (byteAt f (at + 1)) A) (at + 1)
@@ -93,7 +95,7 @@ fieldTests Endings A N Q f at = test (ltb (byteAt f at) Q) at ∷ []
 
 -- how many bytes an entry has
 unfoldable pub width : Body → ℕ
-width Templates = 4
+width (Templates symbols) = ruleWidth symbols
 width Schema = 4
 width Endings = 1
 
@@ -118,18 +120,21 @@ bodyTests b A N Q f first at (suc n) = entryTests b A N Q f first at ++ bodyTest
 abbrev pub body : Body → List ℕ → ℕ → ℕ → List Test
 body b f first n = bodyTests b (nameCount f) (nonterminals f) (states f) f first first n
 
-unfoldable pub bodies : List ℕ → List Test
-bodies f =
-    body Templates f 16 (ruleCount f)
-    ++ (body Schema f (schemaStart f) (schemaCount f) ++ body Endings f (endingStart f) (endingCount f))
+unfoldable pub bodies : ℕ → List ℕ → List Test
+bodies symbols f =
+    body (Templates symbols) f 16 (ruleCount f)
+    ++ (body Schema f (schemaStartOf symbols f) (schemaCount f) ++ body Endings f (endingStartOf symbols f) (endingCount f))
 
--- the whole order of reading
-unfoldable pub tests : List ℕ → List Test
-tests f = headTests f ++ (contentsTests f ++ bodies f)
+-- the whole order of reading, where template rules have so many symbols
+unfoldable pub tests : ℕ → List ℕ → List Test
+tests symbols f = headTests f ++ (contentsTests symbols f ++ bodies symbols f)
 
 -- sound: every test holds
+abbrev pub SoundOf : ℕ → List ℕ → Type 0
+SoundOf symbols f = firstFault (tests symbols f) ≡ Nowhere
+
 abbrev pub IsSound : List ℕ → Type 0
-IsSound f = firstFault (tests f) ≡ Nowhere
+IsSound = SoundOf ruleSymbols
 
 -- a sound file's numbers
 abbrev pub shapeOf : List ℕ → Shape
@@ -148,8 +153,11 @@ abbrev pub verdict : Fault → Shape → Reading
 verdict Nowhere s = Sound s
 verdict (At p) s = Bad p
 
-unfoldable pub reading : List ℕ → Reading
-reading f = verdict (firstFault (tests f)) (shapeOf f)
+unfoldable pub readingOf : ℕ → List ℕ → Reading
+readingOf symbols f = verdict (firstFault (tests symbols f)) (shapeOf f)
+
+abbrev pub reading : List ℕ → Reading
+reading = readingOf ruleSymbols
 
 -- the reading in numbers: a bad file is 7 with the place (Rules, section 9)
 abbrev pub answer : Reading → ℕ

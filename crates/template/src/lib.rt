@@ -3,10 +3,10 @@ ghost use mathlib.Core.Path.{_≡_};
 ghost use mathlib.Core.List.{[], _∷_};
 ghost use Prim.Native.Nat.{_+_, _*_, _≤_, _<_};
 ghost use lib.ListN.{length};
-ghost use Rattle.template.specs.Layout.{halfAt, bodiesEnd, partOf};
+ghost use Rattle.template.specs.Layout.{firstBody, mostSymbols, ruleWidth, halfAt, bodiesEndOf, partOf};
 ghost use Rattle.template.specs.Order.{test, between, orThen, firstFault, headTests, contentsTests, isSymbol, symbolHolds};
-ghost use Rattle.template.specs.Order.{fieldTests, width, precedes, ascends, entryTests, bodyTests, bodies, shapeOf, reading};
-ghost use Rattle.template.specs.Order.{answer, number};
+ghost use Rattle.template.specs.Order.{symbolTests, fieldTests, width, precedes, ascends, entryTests, bodyTests, bodies};
+ghost use Rattle.template.specs.Order.{shapeOf, readingOf, reading, answer, number};
 
 // The most nonterminals, template rules and schema rules, and the length of the longest file.
 pub const NONTERMINALS: usize = 64;
@@ -17,15 +17,18 @@ pub const SCHEMA_RULES: usize = 128;
 
 pub const LONGEST: usize = 16 + 4 * RULES + 4 * SCHEMA_RULES + hedge::STATES;
 
+// How many symbols a template rule has.
+const SYMBOLS: u8 = 2;
+
 // Where the first fault is.
 pub enum Fault {
     Nowhere,
     At(usize),
 }
 
-// The three bodies of a file.
+// The three bodies of a file; a template rule has so many symbols.
 pub enum Body {
-    Templates,
+    Templates(u8),
     Schema,
     Endings,
 }
@@ -99,10 +102,19 @@ fn head_fault(file: &[u8]) -> Fault
     then_test(f, file[3] == 0, 3)
 }
 
+// Where the schema rules begin behind this many template rules of so many symbols.
+fn schema_start_of(symbols: u8, rules: usize) -> usize
+    requires { ⌜ (symbols ≤ mostSymbols) × (rules < 65536) ⌝ }
+    ensures { λ r. ⌜ (r ≡ firstBody + ruleWidth symbols * rules) × (r < 1048576) ⌝ }
+{
+    16 + (2 + numbers::wide(symbols)) * rules
+}
+
 // The contents, entry by entry, and the total length.
-fn contents_fault(file: &[u8]) -> Fault
+fn contents_fault(file: &[u8], symbols: u8) -> Fault
     requires { ⌜ 16 ≤ length (now file) ⌝ }
-    ensures { λ r. ⌜ r ≡ firstFault (contentsTests (now (file .entry))) ⌝ }
+    requires { ⌜ symbols ≤ mostSymbols ⌝ }
+    ensures { λ r. ⌜ r ≡ firstFault (contentsTests symbols (now (file .entry))) ⌝ }
 {
     let states = numbers::wide(file[2]);
     let first = wide_half(half(file, 4));
@@ -111,7 +123,7 @@ fn contents_fault(file: &[u8]) -> Fault
     let schema_rules = wide_half(half(file, 10));
     let third = wide_half(half(file, 12));
     let endings = wide_half(half(file, 14));
-    let schema_start = 16 + 4 * rules;
+    let schema_start = schema_start_of(symbols, rules);
     let ending_start = schema_start + 4 * schema_rules;
     let end = ending_start + endings;
     let f = then_test(Fault::Nowhere, first == 16, 4);
@@ -144,24 +156,32 @@ fn symbol_holds(used: bool, names: u8, nonterminals: u8, byte: u8) -> bool
     }
 }
 
-// A template rule's fields, left to right.
-fn rule_fault(file: &[u8], s: Shape, at: usize) -> Fault
-    requires { ⌜ at + 4 ≤ length (now file) ⌝ }
-    ensures { λ r. ⌜ r ≡ firstFault (fieldTests Body.Templates (s .names) (s .nonterminals) (s .states) (now (file .entry)) at) ⌝ }
+// A template rule's symbols, left to right: an earlier fault stays. Each is tested even so, as a loop without a way out is faster.
+fn symbols_fault(fault: Fault, file: &[u8], s: Shape, symbols: u8, at: usize) -> Fault
+    requires { ⌜ at + ruleWidth symbols ≤ length (now file) ⌝ }
+    ensures { λ r. ⌜ r ≡ orThen fault (firstFault (symbolTests (s .names) (s .nonterminals) (now (file .entry)) at 0 symbols)) ⌝ }
 {
-    let used = file[at + 1];
+    let used = numbers::wide(file[at + 1]);
+    let count = numbers::wide(symbols);
+    let mut f = fault;
+    let mut j = 0;
+    while j < count {
+        let place = at + 2 + j;
+        let holds = symbol_holds(j < used, s.names, s.nonterminals, file[place]);
+        f = then_test(f, holds, place);
+        j += 1;
+    }
+    f
+}
+
+// A template rule's fields, left to right.
+fn rule_fault(file: &[u8], s: Shape, symbols: u8, at: usize) -> Fault
+    requires { ⌜ at + ruleWidth symbols ≤ length (now file) ⌝ }
+    ensures { λ r. ⌜ r ≡ firstFault (fieldTests (Body.Templates symbols) (s .names) (s .nonterminals) (s .states) (now (file .entry)) at) ⌝ }
+{
     let f = then_test(Fault::Nowhere, file[at] < s.nonterminals, at);
-    let f = then_test(f, used <= 2, at + 1);
-    let f = then_test(
-        f,
-        symbol_holds(0 < used, s.names, s.nonterminals, file[at + 2]),
-        at + 2,
-    );
-    then_test(
-        f,
-        symbol_holds(1 < used, s.names, s.nonterminals, file[at + 3]),
-        at + 3,
-    )
+    let f = then_test(f, file[at + 1] <= symbols, at + 1);
+    symbols_fault(f, file, s, symbols, at)
 }
 
 // A schema rule's fields, left to right.
@@ -180,7 +200,7 @@ fn width(body: Body) -> usize
     ensures { λ r. ⌜ r ≡ width body ⌝ }
 {
     match body {
-        Body::Templates => 4,
+        Body::Templates(symbols) => 2 + numbers::wide(symbols),
         Body::Schema => 4,
         Body::Endings => 1,
     }
@@ -192,7 +212,7 @@ fn field_fault(file: &[u8], s: Shape, body: Body, at: usize) -> Fault
     ensures { λ r. ⌜ r ≡ firstFault (fieldTests body (s .names) (s .nonterminals) (s .states) (now (file .entry)) at) ⌝ }
 {
     match body {
-        Body::Templates => rule_fault(file, s, at),
+        Body::Templates(symbols) => rule_fault(file, s, symbols, at),
         Body::Schema => schema_fault(file, s, at),
         Body::Endings => then_test(Fault::Nowhere, file[at] < s.states, at),
     }
@@ -274,16 +294,17 @@ fn shape_of(file: &[u8]) -> Shape
 }
 
 // The three bodies in turn.
-fn bodies_fault(file: &[u8], s: Shape) -> Fault
+fn bodies_fault(file: &[u8], s: Shape, symbols: u8) -> Fault
     requires { ⌜ s ≡ shapeOf (now file) ⌝ }
-    requires { ⌜ bodiesEnd (now file) ≤ length (now file) ⌝ }
-    ensures { λ r. ⌜ r ≡ firstFault (bodies (now (file .entry))) ⌝ }
+    requires { ⌜ symbols ≤ mostSymbols ⌝ }
+    requires { ⌜ bodiesEndOf symbols (now file) ≤ length (now file) ⌝ }
+    ensures { λ r. ⌜ r ≡ firstFault (bodies symbols (now (file .entry))) ⌝ }
 {
     let templates = wide_half(s.templates);
     let schema = wide_half(s.schema);
-    let second = 16 + 4 * templates;
+    let second = schema_start_of(symbols, templates);
     let third = second + 4 * schema;
-    let f = body_fault(file, s, Body::Templates, 16, templates);
+    let f = body_fault(file, s, Body::Templates(symbols), 16, templates);
     if let Fault::At(p) = f {
         return Fault::At(p);
     }
@@ -294,24 +315,32 @@ fn bodies_fault(file: &[u8], s: Shape) -> Fault
     body_fault(file, s, Body::Endings, third, wide_half(s.endings))
 }
 
-// Reads a template file: any bytes may be lent.
-pub fn read(file: &[u8]) -> Reading
-    ensures { λ r. ⌜ r ≡ reading (now (file .entry)) ⌝ }
+// Reads a file whose template rules have so many symbols.
+fn read_of(file: &[u8], symbols: u8) -> Reading
+    requires { ⌜ symbols ≤ mostSymbols ⌝ }
+    ensures { λ r. ⌜ r ≡ readingOf symbols (now (file .entry)) ⌝ }
 {
     let head = head_fault(file);
     if let Fault::At(p) = head {
         return Reading::Bad(p);
     }
-    let contents = contents_fault(file);
+    let contents = contents_fault(file, symbols);
     if let Fault::At(p) = contents {
         return Reading::Bad(p);
     }
     let s = shape_of(file);
-    let rest = bodies_fault(file, s);
+    let rest = bodies_fault(file, s, symbols);
     if let Fault::At(p) = rest {
         return Reading::Bad(p);
     }
     Reading::Sound(s)
+}
+
+// Reads a template file: any bytes may be lent.
+pub fn read(file: &[u8]) -> Reading
+    ensures { λ r. ⌜ r ≡ reading (now (file .entry)) ⌝ }
+{
+    read_of(file, SYMBOLS)
 }
 
 // Where a bad file has its first fault; a sound one has none, and the number is 0.

@@ -13,9 +13,9 @@ use lib.Seq.{drop-drop}
 use Rattle.template.specs.declared.Fault.{Fault}
 use Rattle.template.specs.declared.Fault.the-variants.{Nowhere, At}
 use Rattle.template.specs.declared.Shape.{Shape}
-use Rattle.template.specs.Layout.{ruleCount, schemaCount, endingCount, schemaStart, endingStart, bodiesEnd}
+use Rattle.template.specs.Layout.{ruleSymbols, ruleCount, schemaCount, endingCount, schemaStart, endingStart, bodiesEnd}
 use Rattle.template.specs.Layout.{pickPart, partOf, templateRules, schemaRules, endingStates}
-use Rattle.template.specs.Order.{tests, firstFault, shapeOf, verdict, reading, IsSound}
+use Rattle.template.specs.Order.{tests, firstFault, shapeOf, verdict, readingOf, reading, IsSound}
 use Rattle.template.proofs.ListLaws.{part-is}
 use Rattle.template.proofs.SoundLaws.{sound-reading, sound-file}
 use Rattle.view.specs.Views.{templatesOf, schemaOf, endingsOf, none, counted, ofSound, templatesIn, schemaIn, endingsIn}
@@ -37,8 +37,8 @@ module _ (list : List ℕ → Shape → List ℕ) (held : List ℕ → List ℕ)
   shown-by f (At p) = bad f
 
   shown-held : (f : List ℕ) → list f (counted (reading f)) ≡ ofSound (reading f) (held f)
-  unfolding reading
-  shown-held f = shown-by f (firstFault (tests f))
+  unfolding readingOf
+  shown-held f = shown-by f (firstFault (tests ruleSymbols f))
 
 pub templates-shown : (f : List ℕ) → templatesOf f (counted (reading f)) ≡ templatesIn f
 templates-shown = shown-held templatesOf templateRules (λ f. refl) (λ f. empty-part f 16)

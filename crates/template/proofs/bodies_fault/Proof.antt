@@ -2,23 +2,26 @@
 -- and without one the next body decides. Assumes nothing.
 use mathlib.Core.List.{List}
 use mathlib.Core.Path.{_≡_, refl, ap, _∙_}
-use Prim.Native.Nat.{ℕ}
+use Prim.Native.Nat.{ℕ, _+_, _*_}
 use native.Mathlib.Omega.{arith}
 use denote.Ref.{now}
 use borrow.Author.Needs.{needs}
 use Rattle.template.specs.Order.{firstFault, width, bodies}
 use Rattle.template.specs.declared.Shape.{Shape}
 use Rattle.template.specs.declared.Body.the-variants.{Templates, Schema, Endings}
-use Rattle.template.specs.Layout.{ruleCount, schemaCount, endingCount}
+use Rattle.template.specs.Layout.{firstBody, ruleWidth, ruleCount, schemaCount, endingCount, schemaStartOf}
 use Rattle.template.proofs.FileLaws.{templateTests, schemaTests, endingTests, body-of}
 use Rattle.template.proofs.OrderLaws.{first-stays, first-passes}
 use Rattle.template.proofs.bodies_fault.Statement.{statement}
 use Rattle.template.proofs.bodies_fault.Tie as tie
 
--- the file, and its numbers as they were widened from the shape
+-- the file and the number of symbols, and the file's numbers as they were widened from the shape
 
 abbrev fileAt : tie.After-wide-half2 → List ℕ
 fileAt w = now (w .before .before .before .args .file)
+
+abbrev symbolsAt : tie.After-wide-half2 → ℕ
+symbolsAt w = w .before .before .before .args .symbols
 
 templates-are : (w : tie.After-wide-half2) → w .before .wide-half .result ≡ ruleCount (fileAt w)
 templates-are w = w .before .wide-half .ensures .0 ∙ ap (λ (s : Shape). s .templates) (w .before .before .before .pre .0)
@@ -26,29 +29,41 @@ templates-are w = w .before .wide-half .ensures .0 ∙ ap (λ (s : Shape). s .te
 schema-are : (w : tie.After-wide-half2) → w .wide-half2 .result ≡ schemaCount (fileAt w)
 schema-are w = w .wide-half2 .ensures .0 ∙ ap (λ (s : Shape). s .schema) (w .before .before .before .pre .0)
 
+second-start : (v : tie.After-schema-start-of) → v .schema-start-of .result ≡ schemaStartOf (symbolsAt (v .before)) (fileAt (v .before))
+second-start v = v .schema-start-of .ensures .0 ∙ ap (λ n. firstBody + ruleWidth (symbolsAt (v .before)) * n) (templates-are (v .before))
+
 endings-are : (c : tie.After-wide-half3)
-    → c .wide-half3 .result ≡ endingCount (fileAt (c .before .before .before .before .before .before .before))
+    → c .wide-half3 .result ≡ endingCount (fileAt (c .before .before .before .before .before .before .before .before))
 endings-are c =
-    c .wide-half3 .ensures .0
-    ∙ ap (λ (s : Shape). s .endings) (c .before .before .before .before .before .before .before .before .before .before .pre .0)
+    let w = c .before .before .before .before .before .before .before .before in
+    c .wide-half3 .ensures .0 ∙ ap (λ (s : Shape). s .endings) (w .before .before .before .pre .0)
+
+behind : {a b m n : ℕ} → a ≡ b → m ≡ n → a + 4 * m ≡ b + 4 * n
+behind e d = rw (e, d)
 
 -- the first fault of each body
 
-first-is : (c : tie.After-body-fault) → c .body-fault .result ≡ firstFault (templateTests (fileAt (c .before)))
+first-is : (c : tie.After-body-fault)
+    → c .body-fault .result ≡ firstFault (templateTests (symbolsAt (c .before .before)) (fileAt (c .before .before)))
 first-is c =
-    let w = c .before in
-    body-of Templates (fileAt w) (c .body-fault .ensures) (w .before .before .before .pre .0) refl (templates-are w)
+    let w = c .before .before in
+    body-of (Templates (symbolsAt w)) (fileAt w) (c .body-fault .ensures) (w .before .before .before .pre .0) refl (templates-are w)
 
-second-is : (c : tie.After-body-fault2) → c .body-fault2 .result ≡ firstFault (schemaTests (fileAt (c .before .before .before .before)))
+second-is : (c : tie.After-body-fault2)
+    → let w = c .before .before .before .before .before in
+    c .body-fault2 .result ≡ firstFault (schemaTests (symbolsAt w) (fileAt w))
 second-is c =
-    let w = c .before .before .before .before in
-    body-of Schema (fileAt w) (c .body-fault2 .ensures) (w .before .before .before .pre .0) (rw (templates-are w)) (schema-are w)
+    let v = c .before .before .before .before in
+    let w = v .before in
+    body-of Schema (fileAt w) (c .body-fault2 .ensures) (w .before .before .before .pre .0) (second-start v) (schema-are w)
 
 third-is : (c : tie.After-body-fault3)
-    → c .body-fault3 .result ≡ firstFault (endingTests (fileAt (c .before .before .before .before .before .before .before .before)))
+    → let w = c .before .before .before .before .before .before .before .before .before in
+    c .body-fault3 .result ≡ firstFault (endingTests (symbolsAt w) (fileAt w))
 third-is c =
-    let w = c .before .before .before .before .before .before .before .before in
-    body-of Endings (fileAt w) (c .body-fault3 .ensures) (w .before .before .before .pre .0) (rw (templates-are w, schema-are w))
+    let v = c .before .before .before .before .before .before .before .before in
+    let w = v .before in
+    body-of Endings (fileAt w) (c .body-fault3 .ensures) (w .before .before .before .pre .0) (behind (second-start v) (schema-are w))
     (endings-are (c .before))
 
 -- the answers
@@ -59,11 +74,8 @@ wide-half-requires c κs = search needs
 wide-half-requires-2 : tie.Need-wide-half-requires-2
 wide-half-requires-2 c κs = search needs
 
-mul-second : tie.Need-mul-second
-mul-second c = search needs
-
-add-second : tie.Need-add-second
-add-second c = search needs
+schema-start-of-requires : tie.Need-schema-start-of-requires
+schema-start-of-requires c κs = search needs
 
 mul-third : tie.Need-mul-third
 mul-third c = search needs
@@ -73,7 +85,7 @@ add-third c = search needs
 
 body-fault-requires : tie.Need-body-fault-requires
 unfolding width
-body-fault-requires c κs = (omega arith, omega (arith, templates-are c, c .before .before .before .pre .1))
+body-fault-requires c κs = (omega arith, omega (arith, second-start c, c .before .before .before .before .pre))
 
 enum-known-f : tie.Need-enum-known-f
 enum-known-f c = search needs
@@ -82,7 +94,7 @@ returns : tie.Need-returns
 unfolding bodies
 returns c =
     let first = c .before .before .before in
-    first-stays (templateTests (fileAt (first .before))) _ (first-is first) (c .before .f .given .1)
+    first-stays (templateTests _ (fileAt (first .before .before))) _ (first-is first) (c .before .f .given .1)
 
 enum-told : tie.Need-enum-told
 enum-told c = search needs
@@ -90,8 +102,8 @@ enum-told c = search needs
 body-fault-requires-2 : tie.Need-body-fault-requires-2
 unfolding width
 body-fault-requires-2 c κs =
-    let w = c .before .before .before in
-    (omega arith, omega (arith, templates-are w, schema-are w, w .before .before .before .pre .1))
+    let v = c .before .before .before in
+    (omega arith, omega (arith, second-start v, schema-are (v .before), v .before .before .before .before .pre))
 
 enum-known-g : tie.Need-enum-known-g
 enum-known-g c = search needs
@@ -101,9 +113,9 @@ unfolding bodies
 returns-2 c =
     let second = c .before .before .before in
     let first = second .before .before .before in
-    let file = fileAt (first .before) in
-    first-passes (templateTests file) _ (first-is first) (second .before .enum-told .given .1)
-    (first-stays (schemaTests file) _ (second-is second) (c .before .g .given .1))
+    let file = fileAt (first .before .before) in
+    first-passes (templateTests _ file) _ (first-is first) (second .before .enum-told .given .1)
+    (first-stays (schemaTests _ file) _ (second-is second) (c .before .g .given .1))
 
 enum-told-2 : tie.Need-enum-told-2
 enum-told-2 c = search needs
@@ -114,17 +126,17 @@ wide-half-requires-3 c κs = search needs
 body-fault-requires-3 : tie.Need-body-fault-requires-3
 unfolding width
 body-fault-requires-3 c κs =
-    let w = c .before .before .before .before .before .before .before in
-    (omega arith, omega (arith, templates-are w, schema-are w, endings-are c, w .before .before .before .pre .1))
+    let v = c .before .before .before .before .before .before .before in
+    (omega arith, omega (arith, second-start v, schema-are (v .before), endings-are c, v .before .before .before .before .pre))
 
 returns-3 : tie.Need-returns-3
 unfolding bodies
 returns-3 c =
     let second = c .before .before .before .before in
     let first = second .before .before .before in
-    let file = fileAt (first .before) in
-    first-passes (templateTests file) _ (first-is first) (second .before .enum-told .given .1)
-    (first-passes (schemaTests file) _ (second-is second) (c .before .before .enum-told2 .given .1) (third-is c))
+    let file = fileAt (first .before .before) in
+    first-passes (templateTests _ file) _ (first-is first) (second .before .enum-told .given .1)
+    (first-passes (schemaTests _ file) _ (second-is second) (c .before .before .enum-told2 .given .1) (third-is c))
 
 pub bodies-fault-spec : {M : Type 1} → statement M
 bodies-fault-spec =
@@ -132,8 +144,7 @@ bodies-fault-spec =
     (tie.spec
     wide-half-requires
     wide-half-requires-2
-    mul-second
-    add-second
+    schema-start-of-requires
     mul-third
     add-third
     body-fault-requires

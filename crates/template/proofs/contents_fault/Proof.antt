@@ -48,11 +48,8 @@ half-requires-6 c κs = search needs
 wide-half-requires-6 : tie.Need-wide-half-requires-6
 wide-half-requires-6 c κs = search needs
 
-mul-schema-start : tie.Need-mul-schema-start
-mul-schema-start c = search needs
-
-add-schema-start : tie.Need-add-schema-start
-add-schema-start c = search needs
+schema-start-of-requires : tie.Need-schema-start-of-requires
+schema-start-of-requires c κs = search needs
 
 mul-ending-start : tie.Need-mul-ending-start
 mul-ending-start c = search needs
@@ -87,7 +84,8 @@ then-test-requires-7 c κs = search needs
 returns : tie.Need-returns
 unfolding contentsTests
 returns c =
-    let endings-read = c .before .before .before .before .before .before .before in
+    let start-of = c .before .before .before .before .before .before .before in
+    let endings-read = start-of .before in
     let third-read = endings-read .before .before in
     let schema-read = third-read .before .before in
     let second-read = schema-read .before .before in
@@ -99,15 +97,16 @@ returns c =
     let schema = schema-read .wide-half4 .ensures .0 ∙ schema-read .before .half4 .ensures in
     let third = third-read .wide-half5 .ensures .0 ∙ third-read .before .half5 .ensures in
     let endings = endings-read .wide-half6 .ensures .0 ∙ endings-read .before .half6 .ensures in
+    let start = start-of .schema-start-of .ensures .0 in
     let states = first-read .before .before .wide .ensures .0 in
     first-chain
     (tested (c .before .before .before .before .before .before .then-test .ensures) (rw first)
     (tested (c .before .before .before .before .before .then-test2 .ensures) (rw rules)
-    (tested (c .before .before .before .before .then-test3 .ensures) (rw (second, rules))
+    (tested (c .before .before .before .before .then-test3 .ensures) (rw (second, start, rules))
     (tested (c .before .before .before .then-test4 .ensures) (rw schema)
-    (tested (c .before .before .then-test5 .ensures) (rw (third, rules, schema))
+    (tested (c .before .before .then-test5 .ensures) (rw (third, start, rules, schema))
     (tested (c .before .then-test6 .ensures) (rw (endings, ← states))
-    (tested (c .then-test7 .ensures) (rw (rules, schema, endings)) ended)))))))
+    (tested (c .then-test7 .ensures) (rw (start, rules, schema, endings)) ended)))))))
 
 pub contents-fault-spec : {M : Type 1} → statement M
 contents-fault-spec =
@@ -127,8 +126,7 @@ contents-fault-spec =
     wide-half-requires-5
     half-requires-6
     wide-half-requires-6
-    mul-schema-start
-    add-schema-start
+    schema-start-of-requires
     mul-ending-start
     add-ending-start
     add-end

@@ -9,24 +9,29 @@ use borrow.Author.Needs.{needs}
 use lib.ListN.{length}
 use Rattle.template.specs.declared.Fault.{Fault}
 use Rattle.template.specs.Order.{Test, firstFault, bodies, headTests, contentsTests, tests}
-use Rattle.template.specs.Layout.{bodiesEnd}
+use Rattle.template.specs.Layout.{bodiesEndOf}
 use Rattle.template.proofs.FileLaws.{head-length, contents-length, answers-bad, answers-sound}
 use Rattle.template.proofs.OrderLaws.{first-stays, first-passes}
-use Rattle.template.proofs.read.Statement.{statement}
-use Rattle.template.proofs.read.Tie as tie
+use Rattle.template.proofs.read_of.Statement.{statement}
+use Rattle.template.proofs.read_of.Tie as tie
 
--- the file, and what follows a head or contents without a fault
+-- the file and the number of symbols, and what follows a head or contents without a fault
 
 abbrev fileAt : tie.After-head-fault → List ℕ
 fileAt h = now (h .before .before .args .file)
 
+abbrev symbolsAt : tie.After-head-fault → ℕ
+symbolsAt h = h .before .before .args .symbols
+
+abbrev readHead : tie.After-enum-told2 → tie.After-head-fault
+readHead c = c .before .before .before .before .before
+
 long : (c : tie.After-enum-told) → 16 ≤ length (fileAt (c .before .before))
 long c = head-length (fileAt (c .before .before)) (sym (c .before .before .head-fault .ensures) ∙ c .enum-told .given .1)
 
-exact : (c : tie.After-enum-told2)
-    → length (fileAt (c .before .before .before .before .before)) ≡ bodiesEnd (fileAt (c .before .before .before .before .before))
+exact : (c : tie.After-enum-told2) → length (fileAt (readHead c)) ≡ bodiesEndOf (symbolsAt (readHead c)) (fileAt (readHead c))
 exact c =
-    contents-length (fileAt (c .before .before .before .before .before))
+    contents-length (symbolsAt (readHead c)) (fileAt (readHead c))
     (sym (c .before .before .contents-fault .ensures) ∙ c .enum-told2 .given .1)
 
 after-head : (c : tie.After-enum-told) {g : Fault} (ts : List Test) → g ≡ firstFault ts
@@ -34,13 +39,14 @@ after-head : (c : tie.After-enum-told) {g : Fault} (ts : List Test) → g ≡ fi
 after-head c ts =
     first-passes (headTests (fileAt (c .before .before))) ts (c .before .before .head-fault .ensures) (c .enum-told .given .1)
 
-after-contents : (c : tie.After-enum-told2) {g : Fault} → g ≡ firstFault (bodies (fileAt (c .before .before .before .before .before)))
-    → g ≡ firstFault (tests (fileAt (c .before .before .before .before .before)))
+after-contents : (c : tie.After-enum-told2) {g : Fault} → g ≡ firstFault (bodies (symbolsAt (readHead c)) (fileAt (readHead c)))
+    → g ≡ firstFault (tests (symbolsAt (readHead c)) (fileAt (readHead c)))
 unfolding tests
 after-contents c rest =
-    let file = fileAt (c .before .before .before .before .before) in
-    after-head (c .before .before .before) (contentsTests file ++ bodies file)
-    (first-passes (contentsTests file) (bodies file) (c .before .before .contents-fault .ensures) (c .enum-told2 .given .1) rest)
+    let contents = contentsTests (symbolsAt (readHead c)) (fileAt (readHead c)) in
+    let others = bodies (symbolsAt (readHead c)) (fileAt (readHead c)) in
+    after-head (c .before .before .before) (contents ++ others)
+    (first-passes contents others (c .before .before .contents-fault .ensures) (c .enum-told2 .given .1) rest)
 
 -- the answers
 
@@ -54,13 +60,13 @@ returns : tie.Need-returns
 unfolding tests
 returns c =
     let h = c .before .before .before in
-    answers-bad (fileAt h) (first-stays (headTests (fileAt h)) _ (h .head-fault .ensures) (c .before .head .given .1))
+    answers-bad (symbolsAt h) (fileAt h) (first-stays (headTests (fileAt h)) _ (h .head-fault .ensures) (c .before .head .given .1))
 
 enum-told : tie.Need-enum-told
 enum-told c = search needs
 
 contents-fault-requires : tie.Need-contents-fault-requires
-contents-fault-requires c κs = long c
+contents-fault-requires c κs = (long c, c .before .before .before .before .pre)
 
 enum-known-contents : tie.Need-enum-known-contents
 enum-known-contents c = search needs
@@ -69,9 +75,9 @@ returns-2 : tie.Need-returns-2
 unfolding tests
 returns-2 c =
     let k = c .before .before .before in
-    let file = fileAt (k .before .before .before) in
-    answers-bad file
-    (after-head (k .before) _ (first-stays (contentsTests file) _ (k .contents-fault .ensures) (c .before .contents .given .1)))
+    let h = k .before .before .before in
+    answers-bad (symbolsAt h) (fileAt h)
+    (after-head (k .before) _ (first-stays (contentsTests (symbolsAt h) (fileAt h)) _ (k .contents-fault .ensures) (c .before .contents .given .1)))
 
 enum-told-2 : tie.Need-enum-told-2
 enum-told-2 c = search needs
@@ -80,7 +86,7 @@ shape-of-requires : tie.Need-shape-of-requires
 shape-of-requires c κs = long (c .before .before .before)
 
 bodies-fault-requires : tie.Need-bodies-fault-requires
-bodies-fault-requires c κs = (c .shape-of .ensures, omega (arith, exact (c .before)))
+bodies-fault-requires c κs = (c .shape-of .ensures, (omega arith, omega (arith, exact (c .before))))
 
 enum-known-rest : tie.Need-enum-known-rest
 enum-known-rest c = search needs
@@ -89,7 +95,7 @@ returns-3 : tie.Need-returns-3
 returns-3 c =
     let b = c .before .before .before in
     let k = b .before .before in
-    answers-bad (fileAt (k .before .before .before .before .before))
+    answers-bad _ (fileAt (readHead k))
     (after-contents k (sym (c .before .rest .given .1) ∙ b .bodies-fault .ensures))
 
 enum-told-3 : tie.Need-enum-told-3
@@ -99,11 +105,11 @@ returns-4 : tie.Need-returns-4
 returns-4 c =
     let b = c .before .before in
     let k = b .before .before in
-    answers-sound (fileAt (k .before .before .before .before .before)) (b .before .shape-of .ensures)
+    answers-sound _ (fileAt (readHead k)) (b .before .shape-of .ensures)
     (after-contents k (sym (c .enum-told3 .given .1) ∙ b .bodies-fault .ensures))
 
-pub read-spec : {M : Type 1} → statement M
-read-spec =
+pub read-of-spec : {M : Type 1} → statement M
+read-of-spec =
     tie.close
     (tie.spec
     head-fault-requires
