@@ -156,7 +156,7 @@ fn symbol_holds(used: bool, names: u8, nonterminals: u8, byte: u8) -> bool
     }
 }
 
-// A template rule's symbols, left to right: an earlier fault stays. Each is tested even so, as a loop without a way out is faster.
+// A template rule's symbols, left to right: an earlier fault stays.
 fn symbols_fault(fault: Fault, file: &[u8], s: Shape, symbols: u8, at: usize) -> Fault
     requires { ⌜ at + ruleWidth symbols ≤ length (now file) ⌝ }
     ensures { λ r. ⌜ r ≡ orThen fault (firstFault (symbolTests (s .names) (s .nonterminals) (now (file .entry)) at 0 symbols)) ⌝ }
