@@ -1,4 +1,5 @@
-/* From templates to verdict: checks a template set, reads three pages, and puts a page together from two cached fragments.
+/* From templates to verdict: checks a template set, reads three pages, puts a page together from two cached fragments, and splits a rule
+ * that is longer than two symbols.
  *
  *     cc -Iinclude examples/verdict.c target/staticlib/libujthanor.a -o target/verdict && target/verdict
  *
@@ -18,6 +19,14 @@ static const uint8_t K[] = {
     1                                               /* the ending state */
 };
 
+/* The same page as one long rule of 14 bytes, page -> <a> <b> </b> </a>, under the same schema. */
+static const uint8_t LONG[] = {
+    2, 1, 2, 0,                                                 /* 2 names, 1 nonterminal, 2 states */
+    16, 0, 1, 0, 30, 0, 4, 0, 46, 0, 1, 0,                      /* contents */
+    0, 4, 0, 1, 33, 32, 255, 255, 255, 255, 255, 255, 255, 255, /* the template rule: left side, length, twelve symbols */
+    0, 0, 0, 1, 0, 0, 1, 0, 0, 1, 1, 1, 1, 0, 1, 1, 1           /* schema rules, ending state */
+};
+
 static void check(const char *what, const uint8_t *file, size_t len) {
     static uint64_t table[UJTHANOR_TABLE];
     uint64_t number, images;
@@ -29,6 +38,19 @@ static void page(const char *what, const uint8_t *bytes, size_t len) {
     uint64_t number;
     uint32_t answer = ujthanor_page(K, sizeof K, bytes, len, &number);
     printf("page %s: answer %u, number %llu\n", what, answer, (unsigned long long)number);
+}
+
+static void split(const uint8_t *file, size_t len) {
+    uint8_t out[UJTHANOR_LONGEST];
+    uint64_t number;
+    uint32_t answer = ujthanor_split(file, len, out, 44, &number);
+    printf("a long rule, room for 44 bytes: answer %u, number %llu\n", answer, (unsigned long long)number);
+    answer = ujthanor_split(file, len, out, sizeof out, &number);
+    printf("a long rule: answer %u, number %llu\n", answer, (unsigned long long)number);
+    if (answer != UJTHANOR_OK) return;
+    for (const uint8_t *rule = out + 16; rule < out + 16 + 4 * out[6]; rule += 4)
+        printf("written rule: %d %d %d %d\n", rule[0], rule[1], rule[2], rule[3]);
+    check("the written file", out, (size_t)number);
 }
 
 int main(void) {
@@ -58,5 +80,7 @@ int main(void) {
            (unsigned long long)whole[3]);
     answer = ujthanor_join(K, sizeof K, tail, UJTHANOR_ROW, head, 19, whole, UJTHANOR_ROW, &number);
     printf("a row cut short: answer %u\n", answer);
+
+    split(LONG, sizeof LONG);
     return 0;
 }

@@ -1,5 +1,5 @@
-/* What the header allows: no bytes, no table and no row may each be lent as (NULL, 0), and one row may be both sides of a join. Prints
- * nothing where every answer is right; else says which is not, and ends with 1. */
+/* What the header allows: no bytes, no table, no row and no output may each be lent as (NULL, 0), and one row may be both sides of a join.
+ * Prints nothing where every answer is right; else says which is not, and ends with 1. */
 #include <stdio.h>
 
 #include "ujthanor.h"
@@ -7,10 +7,16 @@
 /* One template rule, page -> <a></a>, under a schema whose one state is ending and takes any elements: an empty page is valid. */
 static const uint8_t OPEN[] = {1, 1, 1, 0, 16, 0, 1, 0, 20, 0, 1, 0, 24, 0, 1, 0, 0, 2, 0, 32, 0, 0, 0, 0, 0};
 
+/* The same with its rule in 14 bytes, page -> <a></a><a></a>, and what is then written: 25 bytes and two rules more. */
+static const uint8_t LONG[] = {1, 1, 1, 0, 16, 0, 1, 0, 30, 0, 1, 0, 34, 0, 1, 0, 0, 4, 0, 32, 0, 32,
+                               255, 255, 255, 255, 255, 255, 255, 255, 0, 0, 0, 0, 0};
+enum { WRITTEN = sizeof OPEN + 8 };
+
 /* What a call must not leave in a number: each is set to it before. */
 static const uint64_t UNSET = 99;
 
 static uint64_t table[UJTHANOR_TABLE], row[UJTHANOR_ROW], other[UJTHANOR_ROW];
+static uint8_t out[UJTHANOR_LONGEST];
 static uint64_t number, images;
 static int32_t depth;
 static int wrong;
@@ -80,6 +86,21 @@ static void depths(void) {
     answered("net depth, no file", ujthanor_net_depth(NULL, 0, row, UJTHANOR_ROW, &number, &depth), UJTHANOR_BAD_FILE);
 }
 
+static void splits(void) {
+    out[0] = out[WRITTEN] = (uint8_t)UNSET;
+    answered("split, no file", ujthanor_split(NULL, 0, out, sizeof out, &number), UJTHANOR_BAD_FILE);
+    answered("split, no output", ujthanor_split(LONG, sizeof LONG, NULL, 0, &number), UJTHANOR_SHORT_OUTPUT);
+    answered("split, no file and no output", ujthanor_split(NULL, 0, NULL, 0, &number), UJTHANOR_BAD_FILE);
+    answered("split, a byte too little", ujthanor_split(LONG, sizeof LONG, out, WRITTEN - 1, &number), UJTHANOR_SHORT_OUTPUT);
+    holds("a refused split leaves the output as it was", out[0] == UNSET);
+    uint32_t answer = ujthanor_split(LONG, sizeof LONG, out, sizeof out, &number);
+    holds("a split gives the bytes written", answer == UJTHANOR_OK && number == WRITTEN);
+    holds("a split leaves the bytes past them", out[WRITTEN] == UNSET);
+    answer = ujthanor_check(out, WRITTEN, table, UJTHANOR_TABLE, UJTHANOR_BUDGET, &number, &images);
+    holds("what was split passes", answer == UJTHANOR_OK);
+    unset();
+}
+
 int main(void) {
     unset();
     checks();
@@ -87,5 +108,6 @@ int main(void) {
     fragments();
     joins();
     depths();
+    splits();
     return wrong;
 }

@@ -1,5 +1,5 @@
 /* How much stack the calls use: each is made on a thread whose stack is a painted array, and the lowest byte that lost its paint tells.
- * Prints the most that each call used, and ends with 1 where that is not less than UJTHANOR_STACK. */
+ * Prints the most that each call used, and ends with 1 where that is not less than UJTHANOR_STACK, or where a split was refused. */
 #define _XOPEN_SOURCE 700 /* pthread_attr_setstack */
 #include <pthread.h>
 #include <stdio.h>
@@ -22,8 +22,12 @@ static const uint8_t K[] = {2, 3, 2, 0,  16, 0, 3, 0, 28, 0, 4, 0, 44, 0, 1, 0, 
 /* Every count at its limit: 256 template rules, 128 schema rules, 8 ending states. */
 static uint8_t full[1560];
 
+/* The longest file of long rules, 256 of two symbols; and one that is split to every limit, with 144 of two symbols and 56 of three. */
+static uint8_t longest[4120], most_split[3336], out[UJTHANOR_LONGEST];
+
 static uint64_t table[UJTHANOR_TABLE], deep[UJTHANOR_ROW], shut[UJTHANOR_ROW], row[UJTHANOR_ROW], number, images;
 static int32_t depth;
+static int refused; /* a split that is refused goes less deep */
 
 static void check_k(void) { ujthanor_check(K, sizeof K, table, UJTHANOR_TABLE, UJTHANOR_BUDGET, &number, &images); }
 
@@ -42,12 +46,17 @@ static void join(void) { ujthanor_join(full, sizeof full, deep, UJTHANOR_ROW, sh
 
 static void net_depth(void) { ujthanor_net_depth(full, sizeof full, deep, UJTHANOR_ROW, &number, &depth); }
 
+static void split_longest(void) { refused |= ujthanor_split(longest, sizeof longest, out, sizeof out, &number) != UJTHANOR_OK; }
+
+static void split_most(void) { refused |= ujthanor_split(most_split, sizeof most_split, out, sizeof out, &number) != UJTHANOR_OK; }
+
 static struct {
     const char *name;
     void (*call)(void);
     size_t used;
 } calls[] = {{"check", check_k, 0}, {"check of the fullest file", check_full, 0}, {"page", page, 0}, {"fragment", starts, 0},
-             {"fragment of ends", ends, 0}, {"join", join, 0}, {"net depth", net_depth, 0}};
+             {"fragment of ends", ends, 0}, {"join", join, 0}, {"net depth", net_depth, 0},
+             {"split of the longest file", split_longest, 0}, {"split to every limit", split_most, 0}};
 
 enum { CALLS = sizeof calls / sizeof *calls };
 
@@ -64,6 +73,41 @@ __attribute__((noinline)) static size_t used(void (*call)(void)) {
 static void *measured(void *none) {
     for (int i = 0; i < CALLS; i++) calls[i].used = used(calls[i].call);
     return none;
+}
+
+/* One rule of a file of long rules; gives the place behind it. */
+static uint8_t *put_long(uint8_t *at, uint8_t left, uint8_t length, const uint8_t symbols[3]) {
+    memset(at, 255, 14);
+    at[0] = left;
+    at[1] = length;
+    memcpy(at + 2, symbols, length);
+    return at + 14;
+}
+
+/* The contents for so many long rules, and the fullest file's schema behind them. */
+static void put_frame(uint8_t *file, uint8_t nonterminals, unsigned rules) {
+    const unsigned second = 16 + 14 * rules, third = second + 512;
+    const unsigned contents[6] = {16, rules, second, 128, third, 8};
+    const uint8_t head[4] = {32, nonterminals, 8, 0};
+    memcpy(file, head, sizeof head);
+    for (int i = 0; i < 6; i++) {
+        file[4 + 2 * i] = (uint8_t)contents[i];
+        file[5 + 2 * i] = (uint8_t)(contents[i] >> 8);
+    }
+    memcpy(file + second, full + 1040, 520);
+}
+
+/* Of the second file, each of 8 nonterminals has 18 short rules and then 7 long ones, which are written before them. */
+static void fill_long(void) {
+    uint8_t *at = longest + 16;
+    for (int i = 0; i < 256; i++) at = put_long(at, (uint8_t)(i / 4), 2, (const uint8_t[]){(uint8_t)(i % 4), 127, 0});
+    put_frame(longest, 64, 256);
+    at = most_split + 16;
+    for (uint8_t n = 0; n < 8; n++) {
+        for (uint8_t i = 0; i < 18; i++) at = put_long(at, n, 2, (const uint8_t[]){64 + i / 3, i % 3, 0});
+        for (uint8_t i = 0; i < 7; i++) at = put_long(at, n, 3, (const uint8_t[]){i, 32, n});
+    }
+    put_frame(most_split, 8, 200);
 }
 
 /* Each of 64 nonterminals gives an element, itself twice, the next, and nothing; each of 8 states takes 16 names and leads to itself. */
@@ -87,6 +131,7 @@ static void fill(void) {
 
 int main(void) {
     fill();
+    fill_long();
     pthread_attr_t attr;
     pthread_t thread;
     if (pthread_attr_init(&attr) != 0 || pthread_attr_setstack(&attr, stack, sizeof stack) != 0 ||
@@ -94,7 +139,8 @@ int main(void) {
         printf("c_stack: no thread\n");
         return 1;
     }
-    int wrong = 0;
+    int wrong = refused;
+    if (refused) printf("c_stack: a split was refused\n");
     for (int i = 0; i < CALLS; i++) {
         printf("c_stack: %s: %zu bytes\n", calls[i].name, calls[i].used);
         wrong |= calls[i].used >= UJTHANOR_STACK;

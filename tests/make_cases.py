@@ -397,6 +397,86 @@ def checks():
     page([0] * 17 + [32] * 17, 12, 16)
 
 
+def rule(left, *symbols):
+    """A long rule of 14 bytes."""
+    return (left, len(symbols)) + symbols + (255,) * (12 - len(symbols))
+
+
+def long_file(names, nonterminals, states, rules, schema=(), endings=()):
+    """A file of long rules, laid out as the rules say, of these entries, whatever they hold."""
+    r, s, e = len(rules), len(schema), len(endings)
+    head = bytes((names, nonterminals, states, 0))
+    head += half(16) + half(r) + half(16 + 14 * r) + half(s) + half(16 + 14 * r + 4 * s) + half(e)
+    return head + b"".join(map(bytes, rules)) + b"".join(map(bytes, schema)) + bytes(endings)
+
+
+def split(f, written, room=None, fill=7):
+    """Splitting gives this file; the bytes behind it stay."""
+    room = len(written) + 2 if room is None else room
+    out = written + bytes([fill]) * (room - len(written))
+    case("L", half(room) + bytes([fill]) + f, " ".join(map(str, [0, len(written), *out])) + " ")
+
+
+def unsplit(f, answer, number=0, room=9, fill=7):
+    """Splitting refuses, and every byte of the output stays."""
+    case("L", half(room) + bytes([fill]) + f, " ".join(map(str, [answer, number] + [fill] * room)) + " ")
+
+
+def splits():
+    # lengths 0, 1 and 2: the rules stay; K with rules of 14 bytes gives K
+    k_long = long_file(2, 3, 2, [rule(0, 65, 32), rule(1, 0, 66), rule(2, 1, 33)], KS, [1])
+    split(k_long, K)
+    split(long_file(1, 1, 1, [rule(0), rule(0, 0), rule(0, 0, 32)]), file(1, 1, 1, [(0, 0, 255, 255), (0, 1, 0, 255), (0, 2, 0, 32)]))
+    split(long_file(1, 1, 1, []), file(1, 1, 1))
+    # three symbols, and twelve: numbers from N on, from left to right
+    split(long_file(1, 2, 1, [rule(0, 0, 65, 32), rule(1, 0, 32)]), file(1, 3, 1, [(0, 2, 0, 66), (1, 2, 0, 32), (2, 2, 65, 32)]))
+    twelve = [0, 32] * 6
+    parts = [(0, 2, 0, 65)] + [(i, 2, twelve[i], 65 + i) for i in range(1, 10)] + [(10, 2, 0, 32)]
+    split(long_file(1, 1, 1, [rule(0, *twelve)]), file(1, 11, 1, parts))
+    # numbers follow the order of the rules, where the length counts before the symbols; the written rules are sorted anew
+    split(long_file(2, 1, 1, [rule(0, 0, 32, 1), rule(0, 1, 33, 0, 32)]),
+          file(2, 4, 1, [(0, 2, 0, 65), (0, 2, 1, 66), (1, 2, 32, 1), (2, 2, 33, 67), (3, 2, 0, 32)]))
+    split(long_file(2, 1, 1, [rule(0, 1, 33, 0), rule(0, 0, 32, 1, 33)]),
+          file(2, 4, 1, [(0, 2, 0, 66), (0, 2, 1, 65), (1, 2, 33, 0), (2, 2, 32, 67), (3, 2, 1, 33)]))
+    # a long rule that stands before a short one of the same left side
+    split(long_file(2, 1, 1, [rule(0, 1, 33), rule(0, 0, 32, 0)]), file(2, 2, 1, [(0, 2, 0, 65), (0, 2, 1, 33), (1, 2, 32, 0)]))
+    # two rules with the same rest share no nonterminal
+    split(long_file(2, 1, 1, [rule(0, 0, 32, 32), rule(0, 1, 32, 32)]),
+          file(2, 3, 1, [(0, 2, 0, 65), (0, 2, 1, 66), (1, 2, 32, 32), (2, 2, 32, 32)]))
+    # exactly 64 nonterminals, six and five times ten new ones and eight; and 65
+    six = [rule(i, *twelve) for i in range(6)]
+    split(long_file(1, 6, 1, six[:5] + [rule(5, *twelve[:10])]),
+          file(1, 64, 1, sorted([(i, 2, 0, 70 + 10 * i) for i in range(5)] + [(5, 2, 0, 120)]
+               + [(6 + 10 * i + j, 2, twelve[j + 1], 71 + 10 * i + j) if j < 9 else (6 + 10 * i + j, 2, 0, 32) for i in range(5) for j in range(10)]
+               + [(56 + j, 2, twelve[j + 1], 121 + j) if j < 7 else (56 + j, 2, 0, 32) for j in range(8)])))
+    unsplit(long_file(1, 6, 1, six[:5] + [rule(5, *twelve[:11])]), 16)
+    # 64 nonterminals without a long rule are no reason; with one they are
+    split(long_file(1, 64, 1, [rule(0, 0, 32)]), file(1, 64, 1, [(0, 2, 0, 32)]))
+    unsplit(long_file(1, 64, 1, [rule(0, 0, 32, 0)]), 16)
+    # exactly 256 rules, and 257
+    many = [rule(i // 25, i % 25, 32 + i // 64) for i in range(256)]
+    split(long_file(32, 12, 1, many), file(32, 12, 1, [r[:4] for r in many]))
+    tail = many[:254] + [rule(11, 0, 32, 0)]
+    split(long_file(32, 12, 1, tail), file(32, 13, 1, [r[:4] for r in many[:254]] + [(11, 2, 0, 76), (12, 2, 32, 0)]))
+    unsplit(long_file(32, 12, 1, many[:255] + [rule(11, 0, 32, 0)]), 16)
+    # exact room, and one byte less; 16 before 17, 7 before both
+    split(k_long, K, room=45)
+    unsplit(k_long, 17, room=44)
+    unsplit(k_long, 17, room=0)
+    unsplit(long_file(1, 64, 1, [rule(0, 0, 32, 0)]), 16, room=0)
+    unsplit(b"", 7, 0, room=0)
+    # the order of reading: offsets behind rules of 14 bytes, the length up to 12, each symbol in its turn, the ascent over all bytes
+    unsplit(K, 7, 8)
+    unsplit(put(k_long, 17, 13), 7, 17)
+    unsplit(put(k_long, 20, 0), 7, 20)
+    unsplit(put(k_long, 29, 254), 7, 29)
+    unsplit(put(k_long, 18, 67), 7, 18)
+    unsplit(long_file(1, 1, 1, [rule(0, 0, 32), rule(0, 0, 32)]), 7, 30)
+    unsplit(long_file(1, 1, 1, [rule(0, 0, 32), rule(0, 0)]), 7, 30)
+    unsplit(long_file(1, 1, 1, [rule(0, *twelve), rule(0, 32, 0, 0)]), 7, 30)
+    unsplit(k_long + b"\0", 7, 0)
+
+
 def main():
     files()
     pages()
@@ -404,6 +484,7 @@ def main():
     structs()
     bad_file()
     checks()
+    splits()
     here = os.path.join(os.path.dirname(__file__), "..", "crates", "cases")
     with open(os.path.join(here, "stdin"), "wb") as f:
         for letter, data, _ in cases:

@@ -1,7 +1,8 @@
 // Runs many cases from one standard input, and prints a line for each. A case is a letter, the 16-bit length of its bytes
 // (little-endian), and the bytes. F is a template file, under which the cases after it stand; P a page; G a fragment; J two fragments to
 // join, the left one's length first; S two summaries to join; N a summary's net depth; C a check, with its budget, the worktable's length
-// and the byte that fills it. tests/make_cases.py writes the cases.
+// and the byte that fills it; L a file of long rules to split, after the output's length and the byte that fills it. tests/make_cases.py writes
+// the cases.
 ghost use mathlib.Core.Path.{_≡_};
 ghost use Prim.Native.Nat.{_+_, _≤_, _<_};
 ghost use lib.ListN.{length};
@@ -15,7 +16,7 @@ struct Cursor {
     to: usize,
 }
 
-fn long(x: u8) -> u64
+fn entry(x: u8) -> u64
     ensures { λ r. ⌜ (r ≡ x) × (r < 256) ⌝ }
 {
     x as u64
@@ -71,7 +72,7 @@ fn show_summary(s: form::Summary) {
     let relations = s.values;
     let mut k = 0;
     while k < pieces::TAGS {
-        word(long(names[k]));
+        word(entry(names[k]));
         k += 1;
     }
     show_relations(relations);
@@ -125,7 +126,7 @@ fn relation_at(bytes: &[u8], at: usize) -> u64
     let mut k = 8;
     while 0 < k {
         k -= 1;
-        r = (r << 8) | long(bytes[at + k]);
+        r = (r << 8) | entry(bytes[at + k]);
     }
     r
 }
@@ -286,9 +287,49 @@ fn check_file(file: &[u8], bytes: &[u8]) {
     }
     let budget = numbers::wide(bytes[0]) + 256 * numbers::wide(bytes[1]);
     let len = numbers::wide(bytes[2]) + 256 * numbers::wide(bytes[3]);
-    let fill = long(bytes[4]);
+    let fill = entry(bytes[4]);
     let mut table = blank();
     check_table(file, &mut table, len, budget, fill);
+}
+
+fn fill_bytes(out: &mut [u8], fill: u8) {
+    let mut k = 0;
+    while k < out.len() {
+        out[k] = fill;
+        k += 1;
+    }
+}
+
+// The bytes up to one.
+fn show_bytes(bytes: &[u8], to: usize) {
+    let mut k = 0;
+    while k < to {
+        if bytes.len() <= k {
+            return;
+        }
+        word(entry(bytes[k]));
+        k += 1;
+    }
+}
+
+// Splits a file into the first bytes of an output, which is filled with a byte first, and shows them all.
+fn split_into(file: &[u8], out: &mut [u8], len: usize, fill: u8) {
+    fill_bytes(out, fill);
+    if len <= out.len() {
+        let r = long::split(file, &mut out[..len]);
+        answer(long::answer(r), long::number(r));
+        show_bytes(out, len);
+        io::write_all(STDOUT_FILENO, b"\n");
+    }
+}
+
+fn split_file(bytes: &[u8]) {
+    if bytes.len() < 3 {
+        return;
+    }
+    let len = numbers::wide(bytes[0]) + 256 * numbers::wide(bytes[1]);
+    let mut out = [0u8; template::LONGEST + 8];
+    split_into(&bytes[3..], &mut out, len, bytes[2]);
 }
 
 fn run(letter: u8, file: &[u8], bytes: &[u8]) {
@@ -303,6 +344,7 @@ fn run(letter: u8, file: &[u8], bytes: &[u8]) {
         b'S' => join_structs(file, bytes),
         b'N' => show_depth(file, bytes),
         b'C' => check_file(file, bytes),
+        b'L' => split_file(bytes),
         _ => (),
     }
 }

@@ -16,10 +16,14 @@ use Rattle.page.specs.declared.PageReply.{PageReply}
 use Rattle.rounds.specs.Checks.{CheckSays}
 use Rattle.rounds.specs.Answers.{answer, number, images}
 use Rattle.rounds.specs.declared.CheckReply.{CheckReply}
+use Rattle.long.specs.Splits.{SplitSays, answer as splitAnswer, number as splitNumber}
+use Rattle.long.specs.declared.SplitReply.{SplitReply}
+use Rattle.long.proofs.UniqueLaws.{shortens-unique}
 use Rattle.ujthanor.specs.LentRows.{written, StandsFor}
-use Rattle.ujthanor.specs.Calls.{CheckCalled, PageCalled, FragmentWritten, FragmentCalled, JoinWritten, JoinCalled, DepthCalled}
+use Rattle.ujthanor.specs.Calls.{CheckCalled, PageCalled, FragmentWritten, FragmentCalled, JoinWritten, JoinCalled, DepthCalled, SplitCalled}
 use Rattle.ujthanor.proofs.UniqueLaws.{stands-some, stands-unique}
-use Rattle.demands.specs.Calls.{CheckMeets, PageMeets, FragmentMeets, JoinMeets, DepthMeets, FragmentFromC, JoinFromC, DepthFromC, Demands}
+use Rattle.demands.specs.Calls.{CheckMeets, PageMeets, FragmentMeets, JoinMeets, DepthMeets, SplitMeets}
+use Rattle.demands.specs.Calls.{FragmentFromC, JoinFromC, DepthFromC, Demands}
 use Rattle.demands.proofs.FirstLaws.{page-order, fragment-order, fragment-refused, join-order, join-refused, depth-order, check-order}
 use Rattle.demands.proofs.WorktableLaws.{worktable}
 use Rattle.demands.proofs.LentRowLaws.{fragment-row, join-row}
@@ -27,6 +31,7 @@ use Rattle.demands.proofs.SecondLaws.{page-judged, fragment-reduced, jo
 use Rattle.demands.proofs.NetDepthLaws.{depth-is, depths-add}
 use Rattle.demands.proofs.RelationLaws.{relations-mean}
 use Rattle.demands.proofs.ThirdLaws.{checked, larger-budget}
+use Rattle.demands.proofs.LongLaws.{split-order, split-written}
 
 -- ---- in Rattle
 
@@ -63,6 +68,11 @@ join-meets f left right r says =
 pub depth-meets : (f : List ℕ) (s : Summary) (r : DepthReply) → DepthSays f s r
     → DepthMeets f s (depthAnswer r) (depthNumber r) (netDepth r)
 depth-meets f s r says = record { first = depth-order f s r says; second = depth-is f s r says }
+
+pub split-meets : (f out : List ℕ) (r : SplitReply) (out′ : List ℕ) → SplitSays f out r out′
+    → SplitMeets f out (splitAnswer r) (splitNumber r) out′
+split-meets f out r out′ says =
+    record { first = split-order f out out′ r says; written = split-written f out out′ r says }
 
 -- ---- from C and Rust
 
@@ -114,6 +124,9 @@ depth-from-c f row a n z call s is =
     let says = subst (λ (s : Summary). DepthSays f s (call .reply)) (stands-unique row (call .lent) s (call .row-lent) is) (call .says) in
     rw (call .answer-is, call .number-is, call .depth-is) (depth-meets f s (call .reply) says)
 
+pub split-from-c : (f out : List ℕ) (a n : ℕ) (out′ : List ℕ) → SplitCalled f out a n out′ → SplitMeets f out a n out′
+split-from-c f out a n out′ call = rw (call .answer-is, call .number-is) (split-meets f out (call .reply) out′ (call .says))
+
 -- ---- what is said of no single call
 
 pub demands : Demands
@@ -124,4 +137,5 @@ demands =
       relations-mean = relations-mean;
       depths-add = depths-add;
       larger-budget = larger-budget;
+      split-once = shortens-unique;
     }

@@ -7,6 +7,7 @@ use mathlib.Core.Logic.{_↔_, ⊎-elim}
 use Prim.Native.Nat.{ℕ, _≤_}
 use native.Mathlib.Omega.{arith}
 use lib.IntN.{pos}
+use Rattle.template.specs.Layout.{ruleSymbols}
 use Rattle.template.specs.Order.{reading}
 use Rattle.template.specs.declared.Reading.the-variants.{Bad}
 use Rattle.form.specs.declared.Summary.{Summary}
@@ -144,11 +145,11 @@ module _ (f t t′ : List ℕ) (budget : ℕ) (r : CheckReply) (says : CheckSays
         then-budget =
             in-words (bare all r (t′, says) 8 refl (λ n. refl))
             (λ (u, (room, none, e)). (room, none)) (λ (room, none). (t, (room, none, refl)));
-        then-file = bad-exactly f (Lent f t budget) (answer r) (number r) check-bad;
+        then-file = bad-exactly ruleSymbols f (Lent f t budget) (answer r) (number r) check-bad;
         then-page =
             in-words (bare all r (t′, says) 6 refl (λ n. refl))
             (λ (u, (lent, sound, none, e)). (lent, sound, none)) (λ (lent, sound, none). (t, (lent, sound, none, refl)));
-        file-place = bad-place f (Lent f t budget) (answer r) (number r) check-bad;
+        file-place = bad-place ruleSymbols f (Lent f t budget) (answer r) (number r) check-bad;
         no-number =
             ⊎-elim (numberless all r (t′, says) 6 (λ n. refl))
             (⊎-elim (numberless all r (t′, says) 8 (λ n. refl)) (numberless all r (t′, says) 9 (λ n. refl)));

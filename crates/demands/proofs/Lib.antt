@@ -15,8 +15,10 @@ pub mod RelationLaws
 pub mod NetDepthLaws
 pub mod RowMeaningLaws
 pub mod ThirdLaws
+pub mod LongLaws
 pub mod CallLaws
 pub mod Findings
 pub mod Packings
 pub mod Replies
 pub mod CaseLaws
+pub mod SplitCaseLaws

@@ -6,11 +6,12 @@ use mathlib.Core.Logic.{_↔_}
 use Prim.Native.Nat.{ℕ, zero, suc, _<_}
 use native.Mathlib.Omega.{arith}
 use lib.ListN.{length, getD}
-use Rattle.template.specs.Order.{IsSound, reading, answer, number}
+use Rattle.template.specs.Layout.{ruleSymbols}
+use Rattle.template.specs.Order.{SoundOf, readingOf, reading, answer, number}
 use Rattle.template.specs.declared.Reading.{Reading}
 use Rattle.template.specs.declared.Reading.the-variants.{Sound, Bad}
-use Rattle.template.proofs.SoundLaws.{reading-sound}
-use Rattle.template.proofs.ShapeLaws.{sound-not-bad}
+use Rattle.template.proofs.SoundLaws.{reading-sound-of}
+use Rattle.template.proofs.ShapeLaws.{sound-not-bad-of}
 use Rattle.demands.specs.First.{FileFirst}
 use Rattle.demands.proofs.Sides.{in-words}
 
@@ -49,33 +50,40 @@ module _ {R : Type 0} (N : Numbered R) (r : R) (says : N .Says r) where
 
 -- ---- a bad file
 
--- a file that is not sound is bad at some place
-bad-somewhere : (f : List ℕ) → (IsSound f → ⊥) → (p : ℕ) × (reading f ≡ Bad p)
-bad-somewhere f none = by (reading f) refl
-  where
-    by : (r : Reading) → reading f ≡ r → (p : ℕ) × (reading f ≡ Bad p)
-    by (Sound s) e = absurd (none (reading-sound f s e .0))
-    by (Bad p) e = (p, e)
+module _ (symbols : ℕ) (f : List ℕ) where
+  -- a file that is not sound is bad at some place
+  bad-somewhere : (SoundOf symbols f → ⊥) → (p : ℕ) × (readingOf symbols f ≡ Bad p)
+  bad-somewhere none = by (readingOf symbols f) refl
+    where
+      by : (r : Reading) → readingOf symbols f ≡ r → (p : ℕ) × (readingOf symbols f ≡ Bad p)
+      by (Sound s) e = absurd (none (reading-sound-of symbols f s e .0))
+      by (Bad p) e = (p, e)
 
--- 7 is given with the place where the file is bad, and only where nothing before it is due
-module _ (f : List ℕ) (Due : Type 0) (a n : ℕ) (given : (p : ℕ) → ((a ≡ 7) × (n ≡ p)) ↔ (Due × (reading f ≡ Bad p))) where
-  pub bad-exactly : (a ≡ 7) ↔ (Due × (IsSound f → ⊥))
-  bad-exactly = (
-    λ e. let (due, bad) = given n .0 (e, refl) in (due, λ sound. sound-not-bad f n sound bad),
-    λ (due, none). let (p, bad) = bad-somewhere f none in given p .1 (due, bad) .0,
-  )
+  -- 7 is given with the place where the file is bad, and only where nothing before it is due
+  module _ (Due : Type 0) (a n : ℕ) (given : (p : ℕ) → ((a ≡ 7) × (n ≡ p)) ↔ (Due × (readingOf symbols f ≡ Bad p))) where
+    pub bad-exactly : (a ≡ 7) ↔ (Due × (SoundOf symbols f → ⊥))
+    bad-exactly = (
+      λ e. let (due, bad) = given n .0 (e, refl) in (due, λ sound. sound-not-bad-of symbols f n sound bad),
+      λ (due, none). let (p, bad) = bad-somewhere none in given p .1 (due, bad) .0,
+    )
 
-  pub bad-place : a ≡ 7 → (answer (reading f) ≡ 7) × (n ≡ number (reading f))
-  bad-place e = let (due, bad) = given n .0 (e, refl) in (ap answer bad, sym (ap number bad))
+    pub bad-place : a ≡ 7 → (answer (readingOf symbols f) ≡ 7) × (n ≡ number (readingOf symbols f))
+    bad-place e = let (due, bad) = given n .0 (e, refl) in (ap answer bad, sym (ap number bad))
+
+  -- where nothing is before it
+  module _ (a n : ℕ) (given : (p : ℕ) → ((a ≡ 7) × (n ≡ p)) ↔ (readingOf symbols f ≡ Bad p)) where
+    first : (p : ℕ) → ((a ≡ 7) × (n ≡ p)) ↔ (Unit {0} × (readingOf symbols f ≡ Bad p))
+    first p = in-words (given p) (λ bad. (tt, bad)) (λ (_, bad). bad)
+
+    pub first-exactly : (a ≡ 7) ↔ (SoundOf symbols f → ⊥)
+    first-exactly = in-words (bad-exactly (Unit {0}) a n first) (λ (_, none). none) (λ none. (tt, none))
+
+    pub first-place : a ≡ 7 → (answer (readingOf symbols f) ≡ 7) × (n ≡ number (readingOf symbols f))
+    first-place = bad-place (Unit {0}) a n first
 
 pub file-first : (f : List ℕ) (a n : ℕ) → ((p : ℕ) → ((a ≡ 7) × (n ≡ p)) ↔ (reading f ≡ Bad p)) → FileFirst f a n
 file-first f a n given =
-    let first : (p : ℕ) → ((a ≡ 7) × (n ≡ p)) ↔ (Unit {0} × (reading f ≡ Bad p))
-    = λ p. in-words (given p) (λ bad. (tt, bad)) (λ (_, bad). bad) in
-    record {
-      bad-file = in-words (bad-exactly f (Unit {0}) a n first) (λ (_, none). none) (λ none. (tt, none));
-      place = bad-place f (Unit {0}) a n first;
-    }
+    record { bad-file = first-exactly ruleSymbols f a n given; place = first-place ruleSymbols f a n given }
 
 -- ---- a number of a list
 

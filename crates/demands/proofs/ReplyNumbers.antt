@@ -1,5 +1,6 @@
 -- The replies of each call in numbers (proofs/NumberLaws.antt): which reply an answer and its number name, and the promise that determines
--- it. A fragment's or join's answer is promised with some summary; a check's reply with some worktable. Assumes nothing.
+-- it. A fragment's or join's answer is promised with some summary; a check's reply with some worktable, a
+-- split's with some output. Assumes nothing.
 use mathlib.Core.Path.{_≡_, refl, ap}
 use mathlib.Core.Bool.{cond}
 use mathlib.Core.List.{List, [], _∷_, List·Memᴰ}
@@ -28,6 +29,10 @@ use Rattle.rounds.specs.Answers.{answer, number, images}
 use Rattle.rounds.specs.declared.CheckReply.{CheckReply}
 use Rattle.rounds.specs.declared.CheckReply.the-variants as check
 use Rattle.rounds.proofs.UniqueLaws.{check-unique}
+use Rattle.long.specs.Splits.{SplitSays, answer as splitAnswer, number as splitNumber}
+use Rattle.long.specs.declared.SplitReply.{SplitReply}
+use Rattle.long.specs.declared.SplitReply.the-variants as split
+use Rattle.long.proofs.UniqueLaws.{split-unique}
 use Rattle.demands.proofs.NumberLaws.{Numbered, listed}
 
 -- ---- pages
@@ -231,3 +236,39 @@ module _ (f t : List ℕ) (budget : ℕ) where
   abbrev pub checkReplies : Numbered CheckReply
   checkReplies =
       record { answer = answer; number = number; reply = checkNamed; named = check-named; Says = CheckMade; unique = check-one }
+
+-- ---- splits
+
+abbrev pub splitNamed : SplitReply → ℕ → ℕ → SplitReply
+splitNamed r a n =
+    cond (eqb a 7) (split.BadFile n) (cond (eqb a 16) split.TooMany (cond (eqb a 17) split.Short (split.Written n)))
+
+pub split-named : (r : SplitReply) → r ≡ splitNamed r (splitAnswer r) (splitNumber r)
+split-named (split.Written n) = refl
+split-named (split.BadFile p) = refl
+split-named split.TooMany = refl
+split-named split.Short = refl
+
+pub split-numbered : (r : SplitReply) → List·Memᴰ (splitAnswer r) (0 ∷ 7 ∷ 16 ∷ 17 ∷ [])
+split-numbered (split.Written n) = listed _ 0 (omega arith)
+split-numbered (split.BadFile p) = listed _ 1 (omega arith)
+split-numbered split.TooMany = listed _ 2 (omega arith)
+split-numbered split.Short = listed _ 3 (omega arith)
+
+module _ (f out : List ℕ) where
+  abbrev pub SplitMade : SplitReply → Type 0
+  SplitMade r = (out′ : List ℕ) × SplitSays f out r out′
+
+  pub split-one : (r q : SplitReply) → SplitMade r → SplitMade q → r ≡ q
+  split-one r q (out′, p) (out″, s) = split-unique f out out′ out″ r q p s .0
+
+  abbrev pub splitReplies : Numbered SplitReply
+  splitReplies =
+      record {
+        answer = splitAnswer;
+        number = splitNumber;
+        reply = splitNamed;
+        named = split-named;
+        Says = SplitMade;
+        unique = split-one;
+      }

@@ -1,6 +1,6 @@
 -- The calls themselves: what each public call, in Rattle and from C or Rust, meets of the three demands. The contract of each function of
--- src/lib.rt is one of these, and its body is the call. A call from C or Rust has the answers of the call that it hands on, and one more: 17,
--- for a row that is too short (specs/First.antt, `LentRow`); then nothing was read, and no demand but that one speaks.
+-- src/lib.rt is one of these, and its body is the call. A call from C or Rust has the answers of the call that it hands on. One that writes a
+-- summary has one more: 17, for a row that is too short (specs/First.antt, `LentRow`); then nothing was read, and no demand but that one speaks.
 use mathlib.Core.Path.{_≡_}
 use mathlib.Core.List.{List}
 use Prim.Native.Nat.{ℕ, _≤_}
@@ -13,10 +13,12 @@ use Rattle.summary.specs.Answers.{joinAnswer, netDepth}
 use Rattle.summary.specs.declared.JoinReply.{JoinReply}
 use Rattle.summary.specs.declared.DepthReply.{DepthReply}
 use Rattle.worktable.specs.Packed.{rowWidth}
+use Rattle.long.specs.Splits.{Shortens}
 use Rattle.ujthanor.specs.LentRows.{written, StandsFor}
 use Rattle.demands.specs.First.{CheckOrder, Worktable, PageOrder, FragmentOrder, JoinOrder, DepthOrder, LentRow}
 use Rattle.demands.specs.Second.{PageJudged, FragmentReduced, RelationsMean, JoinReduced, Depth}
 use Rattle.demands.specs.Third.{Checked, LargerBudget}
+use Rattle.demands.specs.Long.{SplitOrder, SplitWritten}
 
 -- ---- each call
 
@@ -42,6 +44,10 @@ pub record JoinMeets (f : List ℕ) (left right : Summary) (a n : ℕ) (s : Summ
 pub record DepthMeets (f : List ℕ) (s : Summary) (a n : ℕ) (z : ℤ) : Type 0 where
   pub first : DepthOrder f s a n z
   pub second : Depth f s a z
+
+pub record SplitMeets (f out : List ℕ) (a n : ℕ) (out′ : List ℕ) : Type 0 where
+  pub first : SplitOrder f out a n out′
+  pub written : a ≡ 0 → SplitWritten f n out′
 
 -- ---- from C and Rust: a summary is a lent row
 
@@ -70,3 +76,5 @@ pub record Demands : Type 0 where
       → netDepth g ≡ netDepth d +ℤ netDepth e
   -- demand 3
   pub larger-budget : LargerBudget
+  -- a file of long rules is split into one file
+  pub split-once : (f F G : List ℕ) → Shortens f F → Shortens f G → F ≡ G

@@ -1,9 +1,10 @@
--- The cases of the rules that are proved (Rules, section 7), as one table: the file K, the bytes, and what must come of them.
+-- The cases of the rules that are proved: those of section 7 as one table, with the file K, the bytes, and what must come of them; and the
+-- file that section 13 splits.
 use mathlib.Core.Path.{_≡_}
-use mathlib.Core.List.{List, [], _∷_, List·Memᴰ}
-use Prim.Native.Nat.{ℕ, suc}
+use mathlib.Core.List.{List, [], _∷_, _++_, List·Memᴰ}
+use Prim.Native.Nat.{ℕ, suc, _≤_, _<_}
 use lib.IntN.{ℤ, pos}
-use lib.ListN.{take}
+use lib.ListN.{length, take, drop}
 use Rattle.summary.specs.Fragments.{FragmentSays}
 use Rattle.summary.specs.Joins.{JoinSays, DepthSays}
 use Rattle.summary.specs.Answers.{fragmentAnswer, joinAnswer, joinNumber, depthAnswer, netDepth}
@@ -14,6 +15,9 @@ use Rattle.summary.specs.declared.JoinReply.{JoinReply}
 use Rattle.summary.specs.declared.DepthReply.{DepthReply}
 use Rattle.page.specs.Pages.{PageSays, answer, number}
 use Rattle.page.specs.declared.PageReply.{PageReply}
+use Rattle.long.specs.Splits.{SplitSays}
+use Rattle.long.specs.declared.SplitReply.{SplitReply}
+use Rattle.long.specs.declared.SplitReply.the-variants.{Written, Short}
 
 -- file K (Rules, section 11): its schema wants one b, not more and not less, among any number of a
 unfoldable pub K : List ℕ
@@ -74,3 +78,26 @@ cases =
 -- the one statement
 abbrev pub AllHold : Type 0
 AllHold = (c : Case) → List·Memᴰ c cases → CaseHolds c
+
+-- ---- splitting
+
+-- two long rules: 0 to start a, end a, start b; 0 to start b, end b, start a, end a
+unfoldable pub longCase : List ℕ
+longCase =
+    2 ∷ 1 ∷ 1 ∷ 0 ∷ 16 ∷ 0 ∷ 2 ∷ 0 ∷ 44 ∷ 0 ∷ 0 ∷ 0 ∷ 44 ∷ 0 ∷ 0 ∷ 0
+    ∷ 0 ∷ 3 ∷ 0 ∷ 32 ∷ 1 ∷ 255 ∷ 255 ∷ 255 ∷ 255 ∷ 255 ∷ 255 ∷ 255 ∷ 255 ∷ 255
+    ∷ 0 ∷ 4 ∷ 1 ∷ 33 ∷ 0 ∷ 32 ∷ 255 ∷ 255 ∷ 255 ∷ 255 ∷ 255 ∷ 255 ∷ 255 ∷ 255 ∷ []
+
+-- five ordinary ones: nonterminal 1 is the first rule's rest, 2 and 3 are the second's
+unfoldable pub shortCase : List ℕ
+shortCase =
+    2 ∷ 4 ∷ 1 ∷ 0 ∷ 16 ∷ 0 ∷ 5 ∷ 0 ∷ 36 ∷ 0 ∷ 0 ∷ 0 ∷ 36 ∷ 0 ∷ 0 ∷ 0
+    ∷ 0 ∷ 2 ∷ 0 ∷ 65 ∷ 0 ∷ 2 ∷ 1 ∷ 66 ∷ 1 ∷ 2 ∷ 32 ∷ 1 ∷ 2 ∷ 2 ∷ 33 ∷ 67 ∷ 3 ∷ 2 ∷ 0 ∷ 32 ∷ []
+
+-- every reply that is promised writes these 36 bytes, or finds the output too short for them
+pub record SplitHolds (out out′ : List ℕ) (r : SplitReply) : Type 0 where
+  pub written : 36 ≤ length out → (r ≡ Written 36) × (out′ ≡ shortCase ++ drop 36 out)
+  pub short : length out < 36 → (r ≡ Short) × (out′ ≡ out)
+
+abbrev pub SplitCase : Type 0
+SplitCase = (out out′ : List ℕ) (r : SplitReply) → SplitSays longCase out r out′ → SplitHolds out out′ r

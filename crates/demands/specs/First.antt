@@ -96,8 +96,8 @@ pub record DepthOrder (f : List ℕ) (s : Summary) (a n : ℕ) (z : ℤ) : Type 
 
 -- ---- a row lent from C or Rust
 
--- one that is too short stays as it was, with the one answer of its own, 17: the rules have no number for it, and any other refusal writes
--- a whole row of zeros, for which there must be room. What stands past a row never changes
+-- one that is too short stays as it was, with the one answer of its own, 17 (Rules, section 10): any other refusal writes a whole row of
+-- zeros, for which there must be room. What stands past a row never changes
 pub record LentRow (row : List ℕ) (a n : ℕ) (row′ : List ℕ) : Type 0 where
   pub short-first : (a ≡ shortRow) ↔ (length row < rowWidth)
   pub short-unchanged : a ≡ shortRow → (n ≡ 0) × (row′ ≡ row)

@@ -3,7 +3,8 @@
 ghost use Rattle.summary.specs.Answers.{fragmentAnswer, fragmentNumber, joinAnswer, joinNumber, depthAnswer, depthNumber, netDepth};
 ghost use Rattle.page.specs.Pages as page;
 ghost use Rattle.rounds.specs.Answers as check;
-ghost use Rattle.demands.specs.Calls.{CheckMeets, PageMeets, FragmentMeets, JoinMeets, DepthMeets};
+ghost use Rattle.long.specs.Splits as long;
+ghost use Rattle.demands.specs.Calls.{CheckMeets, PageMeets, FragmentMeets, JoinMeets, DepthMeets, SplitMeets};
 ghost use Rattle.demands.specs.Calls.{FragmentFromC, JoinFromC, DepthFromC};
 
 pub fn check(file: &[u8], table: &mut [u64], budget: usize) -> rounds::CheckReply
@@ -34,6 +35,12 @@ pub fn net_depth(file: &[u8], s: form::Summary) -> summary::DepthReply
     ensures { λ r. ⌜ DepthMeets (now (file .entry)) s (depthAnswer r) (depthNumber r) (netDepth r) ⌝ }
 {
     summary::net_depth(file, s)
+}
+
+pub fn split(file: &[u8], out: &mut [u8]) -> long::SplitReply
+    ensures { λ r. ⌜ SplitMeets (now (file .entry)) (now (out .entry)) (long.answer r) (long.number r) (now (out .exit)) ⌝ }
+{
+    long::split(file, out)
 }
 
 pub fn check_from_c(
@@ -76,4 +83,10 @@ pub fn net_depth_from_c(file: &[u8], row: &[u64], number: &mut u64, depth: &mut 
     ensures { λ r. ⌜ DepthFromC (now (file .entry)) (now (row .entry)) r (now (number .exit)) (now (depth .exit)) ⌝ }
 {
     ujthanor::ujthanor_net_depth(file, row, number, depth)
+}
+
+pub fn split_from_c(file: &[u8], out: &mut [u8], number: &mut u64) -> u32
+    ensures { λ r. ⌜ SplitMeets (now (file .entry)) (now (out .entry)) r (now (number .exit)) (now (out .exit)) ⌝ }
+{
+    ujthanor::ujthanor_split(file, out, number)
 }

@@ -8,6 +8,9 @@ ghost use Rattle.template.specs.Order.{test, between, orThen, firstFault
 ghost use Rattle.template.specs.Order.{symbolTests, fieldTests, width, precedes, ascends, entryTests, bodyTests, bodies};
 ghost use Rattle.template.specs.Order.{shapeOf, readingOf, reading, answer, number};
 
+// Where the first body begins: behind the head and the contents.
+pub const FIRST_BODY: usize = 16;
+
 // The most nonterminals, template rules and schema rules, and the length of the longest file.
 pub const NONTERMINALS: usize = 64;
 
@@ -15,10 +18,12 @@ pub const RULES: usize = 256;
 
 pub const SCHEMA_RULES: usize = 128;
 
-pub const LONGEST: usize = 16 + 4 * RULES + 4 * SCHEMA_RULES + hedge::STATES;
+pub const LONGEST: usize = FIRST_BODY + 4 * RULES + 4 * SCHEMA_RULES + hedge::STATES;
 
-// How many symbols a template rule has.
+// How many symbols a template rule has, and how many a long one has.
 const SYMBOLS: u8 = 2;
+
+pub const LONG_SYMBOLS: u8 = 12;
 
 // Where the first fault is.
 pub enum Fault {
@@ -89,7 +94,7 @@ fn is_between(low: usize, x: usize, high: usize) -> bool
 fn head_fault(file: &[u8]) -> Fault
     ensures { λ r. ⌜ r ≡ firstFault (headTests (now (file .entry))) ⌝ }
 {
-    if file.len() < 16 {
+    if file.len() < FIRST_BODY {
         return Fault::At(0);
     }
     let f = then_test(
@@ -107,7 +112,7 @@ fn schema_start_of(symbols: u8, rules: usize) -> usize
     requires { ⌜ (symbols ≤ mostSymbols) × (rules < 65536) ⌝ }
     ensures { λ r. ⌜ (r ≡ firstBody + ruleWidth symbols * rules) × (r < 1048576) ⌝ }
 {
-    16 + (2 + numbers::wide(symbols)) * rules
+    FIRST_BODY + (2 + numbers::wide(symbols)) * rules
 }
 
 // The contents, entry by entry, and the total length.
@@ -126,7 +131,7 @@ fn contents_fault(file: &[u8], symbols: u8) -> Fault
     let schema_start = schema_start_of(symbols, rules);
     let ending_start = schema_start + 4 * schema_rules;
     let end = ending_start + endings;
-    let f = then_test(Fault::Nowhere, first == 16, 4);
+    let f = then_test(Fault::Nowhere, first == FIRST_BODY, 4);
     let f = then_test(f, rules <= RULES, 6);
     let f = then_test(f, second == schema_start, 8);
     let f = then_test(f, schema_rules <= SCHEMA_RULES, 10);
@@ -304,7 +309,7 @@ fn bodies_fault(file: &[u8], s: Shape, symbols: u8) -> Fault
     let schema = wide_half(s.schema);
     let second = schema_start_of(symbols, templates);
     let third = second + 4 * schema;
-    let f = body_fault(file, s, Body::Templates(symbols), 16, templates);
+    let f = body_fault(file, s, Body::Templates(symbols), FIRST_BODY, templates);
     if let Fault::At(p) = f {
         return Fault::At(p);
     }
@@ -343,6 +348,13 @@ pub fn read(file: &[u8]) -> Reading
     read_of(file, SYMBOLS)
 }
 
+// Reads a file of long rules: any bytes may be lent.
+pub fn read_long(file: &[u8]) -> Reading
+    ensures { λ r. ⌜ r ≡ readingOf mostSymbols (now (file .entry)) ⌝ }
+{
+    read_of(file, LONG_SYMBOLS)
+}
+
 // Where a bad file has its first fault; a sound one has none, and the number is 0.
 pub fn place(r: Reading) -> usize
     ensures { λ n. ⌜ n ≡ number r ⌝ }
@@ -371,7 +383,7 @@ pub fn number(r: Reading) -> u64
 
 // The part of a file from a place on, empty where the file ends before it does.
 fn part(file: &[u8], at: usize, len: usize) -> &[u8]
-    requires { ⌜ at + len ≤ 1048576 ⌝ }
+    requires { ⌜ at + len ≤ 2097152 ⌝ }
     ensures { λ r. ⌜ now r ≡ partOf (now (file .entry)) at len ⌝ }
 {
     let end = at + len;
@@ -385,14 +397,18 @@ fn part(file: &[u8], at: usize, len: usize) -> &[u8]
 pub fn template_rules(file: &[u8], templates: u16) -> &[u8]
     ensures { λ r. ⌜ now r ≡ partOf (now (file .entry)) 16 (4 * templates) ⌝ }
 {
-    part(file, 16, 4 * wide_half(templates))
+    part(file, FIRST_BODY, 4 * wide_half(templates))
 }
 
 // The schema rules, four bytes each, behind this many template rules.
 pub fn schema_rules(file: &[u8], templates: u16, schema: u16) -> &[u8]
     ensures { λ r. ⌜ now r ≡ partOf (now (file .entry)) (16 + 4 * templates) (4 * schema) ⌝ }
 {
-    part(file, 16 + 4 * wide_half(templates), 4 * wide_half(schema))
+    part(
+        file,
+        FIRST_BODY + 4 * wide_half(templates),
+        4 * wide_half(schema),
+    )
 }
 
 // The ending states, a byte each, behind this many template rules and schema rules.
@@ -401,7 +417,43 @@ pub fn ending_states(file: &[u8], templates: u16, schema: u16, endings: u16) -> 
 {
     part(
         file,
-        16 + 4 * wide_half(templates) + 4 * wide_half(schema),
+        FIRST_BODY + 4 * wide_half(templates) + 4 * wide_half(schema),
+        wide_half(endings),
+    )
+}
+
+// The bytes of this many long rules.
+fn long_bytes(templates: u16) -> usize
+    ensures { λ r. ⌜ (r ≡ ruleWidth mostSymbols * templates) × (r < 1048576) ⌝ }
+{
+    (2 + numbers::wide(LONG_SYMBOLS)) * wide_half(templates)
+}
+
+// The long rules, where there are this many.
+pub fn long_rules(file: &[u8], templates: u16) -> &[u8]
+    ensures { λ r. ⌜ now r ≡ partOf (now (file .entry)) 16 (ruleWidth mostSymbols * templates) ⌝ }
+{
+    part(file, FIRST_BODY, long_bytes(templates))
+}
+
+// The schema rules behind this many long rules.
+pub fn schema_behind_long(file: &[u8], templates: u16, schema: u16) -> &[u8]
+    ensures { λ r. ⌜ now r ≡ partOf (now (file .entry)) (16 + ruleWidth mostSymbols * templates) (4 * schema) ⌝ }
+{
+    part(
+        file,
+        FIRST_BODY + long_bytes(templates),
+        4 * wide_half(schema),
+    )
+}
+
+// The ending states behind this many long rules and schema rules.
+pub fn endings_behind_long(file: &[u8], templates: u16, schema: u16, endings: u16) -> &[u8]
+    ensures { λ r. ⌜ now r ≡ partOf (now (file .entry)) (16 + ruleWidth mostSymbols * templates + 4 * schema) endings ⌝ }
+{
+    part(
+        file,
+        FIRST_BODY + long_bytes(templates) + 4 * wide_half(schema),
         wide_half(endings),
     )
 }

@@ -21,8 +21,12 @@ use Rattle.page.proofs.UniqueLaws.{page-unique}
 use Rattle.rounds.specs.declared.CheckReply.{CheckReply}
 use Rattle.rounds.specs.Answers.{answer, number, images}
 use Rattle.rounds.proofs.UniqueLaws.{check-unique}
+use Rattle.long.specs.declared.SplitReply.{SplitReply}
+use Rattle.long.specs.Splits.{answer as splitAnswer, number as splitNumber}
+use Rattle.long.proofs.UniqueLaws.{split-unique}
 use Rattle.ujthanor.specs.LentRows.{written, IsRow, noSummary, StandsFor}
 use Rattle.ujthanor.specs.Calls.{CheckCalled, PageCalled, ShortRow, FragmentWritten, FragmentCalled, JoinWritten, JoinCalled, DepthCalled}
+use Rattle.ujthanor.specs.Calls.{SplitCalled}
 
 -- what is laid out by a function from replies that are one is one
 laid : {A B : Type 0} {r s : A} {x y : B} (lay : A → B) → r ≡ s → x ≡ lay r → y ≡ lay s → x ≡ y
@@ -133,4 +137,13 @@ depth-called-unique f row a n a′ n′ z z′ p q =
       laid (λ (r : DepthReply). depthAnswer r) e (p .answer-is) (q .answer-is),
       laid (λ (r : DepthReply). depthNumber r) e (p .number-is) (q .number-is),
       laid (λ (r : DepthReply). netDepth r) e (p .depth-is) (q .depth-is),
+    )
+
+pub split-called-unique : (f out : List ℕ) (a n a′ n′ : ℕ) (out′ out″ : List ℕ) → SplitCalled f out a n out′
+    → SplitCalled f out a′ n′ out″ → (a ≡ a′) × (n ≡ n′) × (out′ ≡ out″)
+split-called-unique f out a n a′ n′ out′ out″ p q =
+    let (e, d) = split-unique f out out′ out″ (p .reply) (q .reply) (p .says) (q .says) in (
+      laid (λ (r : SplitReply). splitAnswer r) e (p .answer-is) (q .answer-is),
+      laid (λ (r : SplitReply). splitNumber r) e (p .number-is) (q .number-is),
+      d,
     )

@@ -19,6 +19,8 @@ use Rattle.page.specs.Pages.{answer as pageAnswer, number as pageNumber}
 use Rattle.rounds.specs.declared.CheckReply.{CheckReply}
 use Rattle.rounds.specs.Checks.{CheckSays}
 use Rattle.rounds.specs.Answers.{answer, number, images}
+use Rattle.long.specs.declared.SplitReply.{SplitReply}
+use Rattle.long.specs.Splits.{SplitSays, answer as splitAnswer, number as splitNumber}
 use Rattle.ujthanor.specs.LentRows.{written, StandsFor}
 
 -- the answer a, the number n, the images m, and the worktable afterwards
@@ -78,3 +80,10 @@ pub record DepthCalled (f row : List ℕ) (a n : ℕ) (z : ℤ) : Type 0 where
   pub answer-is : a ≡ depthAnswer reply
   pub number-is : n ≡ depthNumber reply
   pub depth-is : z ≡ netDepth reply
+
+-- the answer a, the number n, and the output afterwards
+pub record SplitCalled (f out : List ℕ) (a n : ℕ) (out′ : List ℕ) : Type 0 where
+  pub reply : SplitReply
+  pub says : SplitSays f out reply out′
+  pub answer-is : a ≡ splitAnswer reply
+  pub number-is : n ≡ splitNumber reply

@@ -8,7 +8,7 @@ ghost use Rattle.form.specs.Held.{tagCount};
 ghost use Rattle.worktable.specs.Packed.{rowWidth};
 ghost use Rattle.summary.specs.Packing.{zeros};
 ghost use Rattle.ujthanor.specs.LentRows.{written, noSummary, StandsFor};
-ghost use Rattle.ujthanor.specs.Calls.{CheckCalled, PageCalled, FragmentCalled, JoinCalled, DepthCalled};
+ghost use Rattle.ujthanor.specs.Calls.{CheckCalled, PageCalled, FragmentCalled, JoinCalled, DepthCalled, SplitCalled};
 
 // The answer for a row that is too short for a summary.
 const SHORT_ROW: u32 = 17;
@@ -169,4 +169,14 @@ pub extern "C" fn ujthanor_net_depth(
     };
     *depth = z;
     summary::depth_answer(d)
+}
+
+// Splits the rules of a file of long rules: the answer and its number; the ordinary file in the output.
+#[no_mangle]
+pub extern "C" fn ujthanor_split(file: &[u8], out: &mut [u8], number: &mut u64) -> u32
+    ensures { λ r. ⌜ SplitCalled (now (file .entry)) (now (out .entry)) r (now (number .exit)) (now (out .exit)) ⌝ }
+{
+    let r = long::split(file, out);
+    *number = long::number(r);
+    long::answer(r)
 }

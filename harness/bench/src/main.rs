@@ -8,6 +8,7 @@ mod joins;
 mod pages;
 mod peers_page;
 mod sets;
+mod splits;
 mod table;
 mod timing;
 
@@ -19,6 +20,7 @@ fn main() {
     pages::fragments();
     joins::joins();
     joins::net_depths();
+    splits::splits();
     checks::sets();
     checks::by_rounds();
     checks::of_many_rules();

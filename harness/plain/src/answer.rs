@@ -16,5 +16,9 @@ pub const TOO_DEEP: u32 = 12;
 pub const UNMATCHED: u32 = 13;
 pub const NOT_DERIVED: u32 = 14;
 pub const NO_SUMMARY: u32 = 15;
+/// Of splitting: the written file would be past the limits.
+pub const TOO_MANY: u32 = 16;
 /// Of the boundary alone: a row lent for writing is too short.
 pub const SHORT_ROW: u32 = 17;
+/// Of splitting, with the same number: the output is too short.
+pub const SHORT_OUTPUT: u32 = 17;

@@ -1,7 +1,8 @@
-//! The five calls, with the boundary's replies and lent rows.
+//! The six calls, with the boundary's replies, lent rows and lent output.
 
 use crate::answer::*;
 use crate::file::{self, File};
+use crate::long;
 use crate::relation::Schema;
 use crate::rounds::{self, Outcome};
 use crate::summary::{Fault, Summary};
@@ -104,6 +105,24 @@ pub fn net_depth(file: &[u8], row: &[u64]) -> (u32, u64, i32) {
     match Summary::of_row(row, file.names, &Schema::new(&file)) {
         None => (NO_SUMMARY, 0, 0),
         Some(summary) => (PASSED, 0, summary.starts() as i32 - summary.ends() as i32),
+    }
+}
+
+/// Writes the ordinary file of a file of long rules: answer, and the bytes written.
+pub fn split(file: &[u8], out: &mut [u8]) -> (u32, u64) {
+    let long = match file::read_long(file) {
+        Ok(long) => long,
+        Err(place) => return (BAD_FILE, place),
+    };
+    let Some(written) = long::split(&long) else {
+        return (TOO_MANY, 0);
+    };
+    match out.get_mut(..written.len()) {
+        None => (SHORT_OUTPUT, 0),
+        Some(front) => {
+            front.copy_from_slice(&written);
+            (PASSED, written.len() as u64)
+        }
     }
 }
 

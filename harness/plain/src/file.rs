@@ -1,20 +1,29 @@
-//! The template file: its order of reading, its first fault, its three lists; and its layout, for those who make one.
+//! The template file: its order of reading, its first fault, its three lists; and its layout, for those who make one. A file of long
+//! rules is the same with wider template rules.
 
-/// A sound file: its three numbers and its lists, each a stretch of the lent bytes.
+/// Bytes of a template rule, and of a long one: the left side, the length, and as many symbols as are left.
+pub const RULE: usize = 4;
+pub const LONG_RULE: usize = 14;
+
+/// A sound file: its three numbers and its lists, each a stretch of the lent bytes. A template rule has W bytes.
 #[derive(Clone, Copy, Debug)]
-pub struct File<'a> {
+pub struct Wide<'a, const W: usize> {
     pub names: u8,
     pub nonterminals: u8,
     pub states: u8,
-    pub rules: &'a [[u8; 4]],
+    pub rules: &'a [[u8; W]],
     pub schema: &'a [[u8; 4]],
     pub ending: &'a [u8],
 }
 
-impl File<'_> {
+/// An ordinary file, and a file of long rules.
+pub type File<'a> = Wide<'a, RULE>;
+pub type Long<'a> = Wide<'a, LONG_RULE>;
+
+impl<const W: usize> Wide<'_, W> {
     /// The file as section 4 of the rules lays it out, the contents before the bodies. It is sound where its parts are.
     pub fn bytes(&self) -> Vec<u8> {
-        let second = 16 + 4 * self.rules.len();
+        let second = 16 + W * self.rules.len();
         let third = second + 4 * self.schema.len();
         let mut bytes = vec![self.names, self.nonterminals, self.states, 0];
         for (offset, count) in [
@@ -37,6 +46,15 @@ pub type Place = u64;
 
 /// Reads a whole file, or gives the place of the first fault in the order of reading.
 pub fn read(file: &[u8]) -> Result<File<'_>, Place> {
+    read_wide(file)
+}
+
+/// The same for a file of long rules.
+pub fn read_long(file: &[u8]) -> Result<Long<'_>, Place> {
+    read_wide(file)
+}
+
+fn read_wide<const W: usize>(file: &[u8]) -> Result<Wide<'_, W>, Place> {
     if file.len() < 16 {
         return Err(0);
     }
@@ -45,11 +63,11 @@ pub fn read(file: &[u8]) -> Result<File<'_>, Place> {
     hold((1..=64).contains(&nonterminals), 1)?;
     hold((1..=8).contains(&states), 2)?;
     hold(file[3] == 0, 3)?;
-    let (rules_end, rules) = body(file, 4, 16, 4, 256)?;
+    let (rules_end, rules) = body(file, 4, 16, W, 256)?;
     let (schema_end, schema) = body(file, 8, rules_end, 4, 128)?;
     let (end, ending) = body(file, 12, schema_end, 1, states as usize)?;
     hold(file.len() == end, 0)?;
-    let sound = File {
+    let sound = Wide {
         names,
         nonterminals,
         states,
@@ -86,13 +104,13 @@ fn body(
     Ok((end, offset..end))
 }
 
-impl File<'_> {
+impl<const W: usize> Wide<'_, W> {
     fn bodies(&self) -> Result<(), Place> {
         let mut place = 16;
         for (i, rule) in self.rules.iter().enumerate() {
             self.rule(rule, place)?;
             hold(i == 0 || self.rules[i - 1] < *rule, place)?;
-            place += 4;
+            place += W;
         }
         for (i, rule) in self.schema.iter().enumerate() {
             let below = [self.states, self.names, self.states, self.states];
@@ -110,10 +128,11 @@ impl File<'_> {
         Ok(())
     }
 
-    fn rule(&self, rule: &[u8; 4], place: usize) -> Result<(), Place> {
+    fn rule(&self, rule: &[u8; W], place: usize) -> Result<(), Place> {
+        let most = W - 2;
         hold(rule[0] < self.nonterminals, place)?;
-        hold(rule[1] <= 2, place + 1)?;
-        for i in 0..2 {
+        hold(rule[1] as usize <= most, place + 1)?;
+        for i in 0..most {
             let symbol = rule[2 + i];
             let used = i < rule[1] as usize;
             let fits = if used {

@@ -26,3 +26,8 @@ pub fn net_depth(file: &[u8], row: &[u64]) -> (u32, u64, i32) {
     let reply = calls::net_depth(file, row);
     (reply.answer, reply.number, reply.depth)
 }
+
+pub fn split(file: &[u8], out: &mut [u8]) -> (u32, u64) {
+    let reply = calls::split(file, out);
+    (reply.answer, reply.number)
+}

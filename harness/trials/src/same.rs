@@ -102,6 +102,31 @@ pub fn same_net_depth(file: &[u8], row: &[u64]) -> Agreed {
     Ok(library.0)
 }
 
+/// The output is lent as it is given. Only answer 0 may write, and only the file; gives that file too.
+pub fn same_split(file: &[u8], lent: &[u8]) -> Result<(u32, Vec<u8>), Difference> {
+    let (mut one, mut two) = (lent.to_vec(), lent.to_vec());
+    let library = library::split(file, &mut one);
+    let plain = plain::split(file, &mut two);
+    let mut fault = None;
+    if (library, &one) != (plain, &two) {
+        fault = Some("split");
+    }
+    let length = if library.0 == 0 {
+        library.1 as usize
+    } else {
+        0
+    };
+    if one.get(length..) != lent.get(length..) {
+        fault = fault.or(Some("split: bytes to be kept"));
+    }
+    let Some(what) = fault else {
+        one.truncate(length);
+        return Ok((library.0, one));
+    };
+    let (library, plain) = ((library, &one), (plain, &two));
+    differ(what, file, &lent, &library, &plain).map(|answer| (answer, Vec::new()))
+}
+
 /// What is wrong with a row lent for writing, if anything is.
 fn written(answer: u32, lent: &[u64], row: &[u64]) -> Option<&'static str> {
     let later = ROW.min(lent.len());

@@ -3,19 +3,20 @@
 use std::fmt;
 
 /// The calls, in the order of the tally.
-pub const CALLS: [&str; 5] = ["check", "page", "fragment", "join", "net depth"];
+pub const CALLS: [&str; 6] = ["check", "page", "fragment", "join", "net depth", "split"];
 pub const CHECK: usize = 0;
 pub const PAGE: usize = 1;
 pub const FRAGMENT: usize = 2;
 pub const JOIN: usize = 3;
 pub const NET_DEPTH: usize = 4;
+pub const SPLIT: usize = 5;
 
-/// The answers that can be given at all; 16 is none.
-pub const ANSWERS: [u32; 17] = [0, 1, 2, 3, 4, 5, 6, 7, 8, 9, 10, 11, 12, 13, 14, 15, 17];
+/// How many answers can be given: 0 to 17.
+pub const ANSWERS: u32 = 18;
 
 #[derive(Clone, Default)]
 pub struct Tally {
-    seen: [[u64; 18]; 5],
+    seen: [[u64; ANSWERS as usize]; CALLS.len()],
 }
 
 impl Tally {
@@ -30,7 +31,7 @@ impl Tally {
 
     /// How often any call gave an answer.
     pub fn answer(&self, answer: u32) -> u64 {
-        (0..5).map(|call| self.seen(call, answer)).sum()
+        (0..CALLS.len()).map(|call| self.seen(call, answer)).sum()
     }
 
     /// How many comparisons of a call were made.
@@ -39,7 +40,7 @@ impl Tally {
     }
 
     pub fn total(&self) -> u64 {
-        (0..5).map(|call| self.call(call)).sum()
+        (0..CALLS.len()).map(|call| self.call(call)).sum()
     }
 }
 
@@ -49,14 +50,14 @@ impl fmt::Display for Tally {
         for name in CALLS {
             write!(f, " {name:>12}")?;
         }
-        for answer in ANSWERS {
+        for answer in 0..ANSWERS {
             write!(f, "\n{answer:>10} {:>12}", self.answer(answer))?;
-            for call in 0..5 {
+            for call in 0..CALLS.len() {
                 write!(f, " {:>12}", self.seen(call, answer))?;
             }
         }
         write!(f, "\n{:>10} {:>12}", "all", self.total())?;
-        for call in 0..5 {
+        for call in 0..CALLS.len() {
             write!(f, " {:>12}", self.call(call))?;
         }
         Ok(())

@@ -1,10 +1,13 @@
-//! One round of the quick and the long run: a file, and everything that can be asked of it.
+//! One round of the quick and the long run: a file, and everything that can be asked of it; then files of long rules.
 
 use crate::gen::rows::{self, Under};
 use crate::gen::sample::Sampler;
-use crate::gen::{damage, pages, sets, sizes};
-use crate::same::{same_check, same_fragment, same_join, same_net_depth, same_page, Difference};
-use crate::tally::{Tally, CHECK, FRAGMENT, JOIN, NET_DEPTH, PAGE};
+use crate::gen::{damage, long, pages, sets, sizes};
+use crate::same::{
+    same_check, same_fragment, same_join, same_net_depth, same_page, same_split, Difference,
+};
+use crate::tally::{Tally, CHECK, FRAGMENT, JOIN, NET_DEPTH, PAGE, SPLIT};
+use plain::LONGEST;
 use seeds::Rng;
 
 /// How many comparisons a round makes of each kind (fewer of a file that is not sound).
@@ -12,6 +15,7 @@ pub struct Sizes {
     pub checks: usize,
     pub pages: usize,
     pub joins: usize,
+    pub splits: usize,
 }
 
 /// Of the quick run, which looks at many files.
@@ -19,16 +23,24 @@ pub const QUICK: Sizes = Sizes {
     checks: 2,
     pages: 10,
     joins: 10,
+    splits: 2,
 };
 /// Of the long run, which also looks longer at each.
 pub const LONG: Sizes = Sizes {
     checks: 4,
     pages: 24,
     joins: 24,
+    splits: 4,
 };
 
-/// A file and comparisons over it, noted in the tally up to the first difference.
+/// A file and comparisons over it, then some splits, noted in the tally up to the first difference.
 pub fn round(sizes: &Sizes, rng: &mut Rng, tally: &mut Tally) -> Result<(), Difference> {
+    asked(sizes, rng, tally)?;
+    (0..sizes.splits).try_for_each(|_| split(rng, tally))
+}
+
+/// A file, sound or not, and comparisons over it.
+fn asked(sizes: &Sizes, rng: &mut Rng, tally: &mut Tally) -> Result<(), Difference> {
     let draft = sets::any(rng);
     if rng.once_in(5) {
         let file = damage::any(&draft, rng);
@@ -98,5 +110,25 @@ fn joined(under: Under, rng: &mut Rng, tally: &mut Tally) -> Result<(), Differen
     );
     let one = if rng.once_in(2) { left } else { right };
     tally.note(NET_DEPTH, same_net_depth(under.file, &one)?);
+    Ok(())
+}
+
+/// A file of long rules, or what is damaged or none, split by both; then what was written is checked by both.
+fn split(rng: &mut Rng, tally: &mut Tally) -> Result<(), Difference> {
+    let draft = long::any(rng);
+    let file = match rng.below(32) {
+        0..=6 => damage::any(&draft, rng),
+        7 => sets::any(rng).bytes(),
+        _ => draft.bytes(),
+    };
+    let needed = plain::split(&file, &mut [0; LONGEST]).1 as usize;
+    let room = sizes::output(needed, rng);
+    let (answer, written) = same_split(&file, &rng.bytes(room))?;
+    tally.note(SPLIT, answer);
+    if answer == 0 {
+        plain::file::read(&written).map_err(|place| format!("not sound at {place}: {file:?}"))?;
+        let checked = same_check(&written, sizes::table(rng), sizes::budget(rng), rng)?;
+        tally.note(CHECK, checked);
+    }
     Ok(())
 }

@@ -1,7 +1,7 @@
 //! The quick run: seeded rounds over all kinds of input, and a look at what they saw.
 
 use seeds::Rng;
-use trials::tally::{Tally, ANSWERS, CHECK, FRAGMENT, JOIN, NET_DEPTH, PAGE};
+use trials::tally::{Tally, ANSWERS, CHECK, FRAGMENT, JOIN, NET_DEPTH, PAGE, SPLIT};
 use trials::trial::{round, QUICK};
 
 const ROUNDS: u64 = 12_000;
@@ -16,7 +16,7 @@ fn both_sides_agree_and_every_answer_is_seen() {
         }
     }
     println!("{tally}");
-    for answer in ANSWERS {
+    for answer in 0..ANSWERS {
         assert!(
             tally.answer(answer) >= 100,
             "answer {answer} is too rare:\n{tally}"
@@ -28,9 +28,12 @@ fn both_sides_agree_and_every_answer_is_seen() {
         (FRAGMENT, vec![0, 7, 10, 11, 12, 17]),
         (JOIN, vec![0, 7, 11, 12, 15, 17]),
         (NET_DEPTH, vec![0, 7, 15]),
+        (SPLIT, vec![0, 7, 16, 17]),
     ];
     for (call, answers) in given {
-        let seen: Vec<u32> = (0..18).filter(|&a| tally.seen(call, a) >= 50).collect();
+        let seen: Vec<u32> = (0..ANSWERS)
+            .filter(|&a| tally.seen(call, a) >= 50)
+            .collect();
         assert_eq!(seen, answers, "call {call}:\n{tally}");
     }
 }

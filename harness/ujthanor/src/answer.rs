@@ -1,4 +1,4 @@
-//! The answer numbers by name (docs/RULES.md, section 9).
+//! The answer numbers by name (docs/RULES.md, sections 9 and 13).
 
 /// What a call answers other than 0. `Unknown` is for a number that this list has no name for; no call gives one.
 #[derive(Clone, Copy, Debug, PartialEq, Eq, Hash)]
@@ -21,13 +21,19 @@ pub enum Answer {
     Unmatched = 13,
     NotDerived = 14,
     NoSummary = 15,
+    TooMany = 16,
+    /// What is to be written is longer than what was lent for it: a row, or the output of a split ([`Answer::ShortOutput`]).
     ShortRow = 17,
     Unknown = u32::MAX,
 }
 
 impl Answer {
+    /// A split's name for 17, which [`Answer::ShortRow`] is of a fragment and a join.
+    #[allow(non_upper_case_globals)]
+    pub const ShortOutput: Answer = Answer::ShortRow;
+
     /// Every answer that a call gives, other than 0.
-    pub const ALL: [Answer; 16] = {
+    pub const ALL: [Answer; 17] = {
         use Answer::*;
         [
             BrokenMismatch,
@@ -45,6 +51,7 @@ impl Answer {
             Unmatched,
             NotDerived,
             NoSummary,
+            TooMany,
             ShortRow,
         ]
     };

@@ -1,4 +1,4 @@
-//! The five calls over slices: the answer is a number of the rules (docs/RULES.md, section 9), a summary a row of 20 entries.
+//! The six calls over slices: the answer is a number of the rules (docs/RULES.md, sections 9 and 13), a summary a row of 20 entries.
 //!
 //! No call asks anything of its caller that safe Rust does not give. A slice is a pointer and a length; what a call writes is lent by
 //! `&mut`, so nothing else that it is lent overlaps it and no other thread touches it meanwhile.
@@ -13,7 +13,7 @@ pub struct Check {
     pub images: u64,
 }
 
-/// The reply of a page, fragment or join.
+/// The reply of a page, fragment, join or split.
 #[derive(Clone, Copy, Debug, PartialEq, Eq)]
 pub struct Reply {
     pub answer: u32,
@@ -148,4 +148,28 @@ pub fn net_depth(file: &[u8], row: &[u64]) -> Depth {
         number,
         depth,
     }
+}
+
+/// The ordinary template file of a file of long rules, at the front of the output; the number is then how many bytes it has. An output
+/// of 1,560 bytes is always long enough. A refusal writes nothing, and bytes past the written file never change.
+///
+/// No file is split in its own place:
+///
+/// ```compile_fail,E0502
+/// let mut bytes = [0u8; 4_120];
+/// ujthanor::calls::split(&bytes, &mut bytes);
+/// ```
+pub fn split(file: &[u8], out: &mut [u8]) -> Reply {
+    let mut number = 0;
+    // SAFETY: as in `check`.
+    let answer = unsafe {
+        raw::ujthanor_split(
+            file.as_ptr(),
+            file.len(),
+            out.as_mut_ptr(),
+            out.len(),
+            &mut number,
+        )
+    };
+    Reply { answer, number }
 }

@@ -1,6 +1,6 @@
 //! Ujthanor from Rust: safe calls over `libujthanor.a`.
 //!
-//! Three layers. [`raw`] declares what the archive exports, as `include/ujthanor.h` does. [`calls`] has the same five calls over
+//! Three layers. [`raw`] declares what the archive exports, as `include/ujthanor.h` does. [`calls`] has the same six calls over
 //! slices. The functions here say them in Rust's own words: a [`Summary`], a [`Pass`], or a [`Refusal`] that carries the [`Answer`],
 //! knows what its number means, and prints what to do.
 //!
@@ -17,7 +17,8 @@ pub use answer::Answer;
 pub use refusal::{Call, Number, Refusal};
 
 /// Rises by one whenever a public layout changes: a summary's row, the worktable, the template file, or the numbers of the answers.
-/// Store it with summaries that are kept, and make those anew that were stored with another. The header has the same number.
+/// Store it with summaries that are kept, and make those anew that were stored with another. A new call and its own answers do not
+/// raise it. The header has the same number.
 pub const LAYOUT: u32 = 1;
 
 /// Entries of a worktable, and of a summary's row.
@@ -26,6 +27,9 @@ pub const ROW: usize = 20;
 
 /// The largest budget; with it a check never answers 5.
 pub const BUDGET: usize = 257;
+
+/// Bytes of the longest template file; an output of so many is never too short for a split.
+pub const LONGEST: usize = 1_560;
 
 /// A passed check: the round that found nothing new, and the number of images at the front of the worktable.
 #[derive(Clone, Copy, Debug, PartialEq, Eq)]
@@ -90,4 +94,26 @@ pub fn join(file: &[u8], left: &Summary, right: &Summary) -> Result<Summary, Ref
 pub fn net_depth(file: &[u8], summary: &Summary) -> Result<i32, Refusal> {
     let r = calls::net_depth(file, &summary.0);
     told(Call::NetDepth, r.answer, r.number, r.depth)
+}
+
+/// Writes the ordinary template file of a file of long rules (at most 12 symbols each) to the front of the output, and gives its length.
+/// Every nonterminal of the long file keeps its number and derives the strings that it derived there.
+///
+/// A refusal changes no byte of the output, and bytes past the written file never change. An output of [`LONGEST`] bytes is never too
+/// short:
+///
+/// ```
+/// // one name, one nonterminal, one state, which is ending and takes any elements; the page is two empty elements in a row
+/// let mut long = vec![1, 1, 1, 0, 16, 0, 1, 0, 30, 0, 1, 0, 34, 0, 1, 0];
+/// long.extend([0, 4, 0, 32, 0, 32, 255, 255, 255, 255, 255, 255, 255, 255]);
+/// long.extend([0, 0, 0, 0, 0]);
+/// let mut out = [0; ujthanor::LONGEST];
+/// let length = ujthanor::split(&long, &mut out)?;
+/// let mut table = vec![0; ujthanor::TABLE];
+/// assert!(ujthanor::check(&out[..length], &mut table, ujthanor::BUDGET).is_ok());
+/// # Ok::<(), ujthanor::Refusal>(())
+/// ```
+pub fn split(file: &[u8], out: &mut [u8]) -> Result<usize, Refusal> {
+    let r = calls::split(file, out);
+    told(Call::Split, r.answer, r.number, r.number as usize)
 }

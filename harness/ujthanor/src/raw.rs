@@ -2,10 +2,10 @@
 //!
 //! # Safety
 //!
-//! For each call, as the header says: a pointer with a length points to that many entries, aligned, that may be read (`table`, and
-//! the `row` of fragment and join: also written), and may be null only where the length is 0. `number`, `images` and `depth` point to
-//! an object that may be written, whatever the answer; they are never null. What is written shares no byte with anything else that the
-//! call is lent, and nobody else touches it, or writes what is only read, while the call runs.
+//! For each call, as the header says: a pointer with a length points to that many entries, aligned, that may be read (`table`, `out`
+//! and the `row` of fragment and join: also written), and may be null only where the length is 0. `number`, `images` and `depth` point
+//! to an object that may be written, whatever the answer; they are never null. What is written shares no byte with anything else that
+//! the call is lent, and nobody else touches it, or writes what is only read, while the call runs.
 
 extern "C" {
     pub fn ujthanor_check(
@@ -55,5 +55,13 @@ extern "C" {
         row_len: usize,
         number: *mut u64,
         depth: *mut i32,
+    ) -> u32;
+
+    pub fn ujthanor_split(
+        file: *const u8,
+        file_len: usize,
+        out: *mut u8,
+        out_len: usize,
+        number: *mut u64,
     ) -> u32;
 }

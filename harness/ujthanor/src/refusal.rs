@@ -11,6 +11,7 @@ pub enum Call {
     Fragment,
     Join,
     NetDepth,
+    Split,
 }
 
 /// What the number beside an answer means. The same answer may have a place from one call and nothing from another.
@@ -20,7 +21,8 @@ pub enum Number {
     Round(u64),
     /// The budget, all of which is used.
     Budget(u64),
-    /// A byte's place, counted from 0: with [`Answer::BadFile`] in the template file, else in the page or fragment.
+    /// A byte's place, counted from 0: with [`Answer::BadFile`] in the template file or the file of long rules, else in the page or
+    /// fragment.
     Place(u64),
     /// No number is meant.
     Nothing,
@@ -62,6 +64,7 @@ impl Refusal {
     /// Where the byte at a place stands.
     fn place_in(&self) -> &'static str {
         match (self.answer, self.call) {
+            (Answer::BadFile, Call::Split) => "file of long rules",
             (Answer::BadFile, _) => "template file",
             (_, Call::Page) => "page",
             _ => "fragment",
@@ -93,6 +96,12 @@ impl Refusal {
             NotDerived => "The page's tags match, but the schema does not allow the page",
             NoSummary if join => "One of the two summaries does not fit this template file",
             NoSummary => "The summary does not fit this template file",
+            TooMany => {
+                "Split up, these rules need more than 64 nonterminals or more than 256 rules"
+            }
+            ShortRow if self.call == Call::Split => {
+                "The output is shorter than the file to be written"
+            }
             ShortRow => "The row for the summary has fewer than 20 entries",
             Unknown => "The library gave an answer that has no name here",
         }
@@ -122,6 +131,8 @@ impl Refusal {
             Unmatched => "Add their partners, or take them away",
             NotDerived => "Mend the page or the schema",
             NoSummary => "Make it anew with this file",
+            TooMany => "Shorten the longest rules, or make two sets of this one",
+            ShortRow if self.call == Call::Split => "Lend 1,560 bytes, which are always enough",
             ShortRow => "Lend one of 20",
             Unknown => "Use wrapper and archive of one release",
         }

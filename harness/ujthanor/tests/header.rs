@@ -1,7 +1,7 @@
 //! The wrapper has the header's numbers: its layout, its sizes and its answers.
 
 use std::collections::BTreeMap;
-use ujthanor::{Answer, BUDGET, LAYOUT, ROW, TABLE};
+use ujthanor::{Answer, BUDGET, LAYOUT, LONGEST, ROW, TABLE};
 
 const HEADER: &str = include_str!("../../../include/ujthanor.h");
 
@@ -37,12 +37,13 @@ fn layout_and_sizes() {
     assert_eq!(numbers["TABLE"], TABLE as u64);
     assert_eq!(numbers["ROW"], ROW as u64);
     assert_eq!(numbers["BUDGET"], BUDGET as u64);
+    assert_eq!(numbers["LONGEST"], LONGEST as u64);
 }
 
 #[test]
 fn answers() {
     let mut numbers = numbers();
-    for other in ["LAYOUT", "TABLE", "ROW", "BUDGET", "STACK"] {
+    for other in ["LAYOUT", "TABLE", "ROW", "BUDGET", "LONGEST", "STACK"] {
         assert!(numbers.remove(other).is_some(), "{other}");
     }
     assert_eq!(numbers.remove("OK"), Some(0));
@@ -50,5 +51,8 @@ fn answers() {
         let number = numbers.remove(&capitals(answer));
         assert_eq!(number, Some(answer as u64), "{answer:?}");
     }
+    // Two names of one number: what is lent for writing is too short.
+    let short = numbers.remove("SHORT_OUTPUT");
+    assert_eq!(short, Some(Answer::ShortOutput as u64));
     assert!(numbers.is_empty(), "only in the header: {numbers:?}");
 }

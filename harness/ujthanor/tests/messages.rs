@@ -2,10 +2,10 @@
 
 mod common;
 
-use common::{open, K};
-use ujthanor::{calls, check, fragment, join, net_depth, page};
+use common::{open, K, LONG};
+use ujthanor::{calls, check, fragment, join, net_depth, page, split};
 use ujthanor::{Call, Number, Refusal, Summary};
-use ujthanor::{BUDGET, ROW, TABLE};
+use ujthanor::{BUDGET, LONGEST, ROW, TABLE};
 
 /// What is wrong, and what to do.
 fn says<T: std::fmt::Debug>(refused: Result<T, Refusal>, problem: &str, remedy: &str) {
@@ -194,6 +194,33 @@ fn summaries() {
     );
 }
 
+#[test]
+fn splits() {
+    let mut out = [0; LONGEST];
+    says(
+        split(&K, &mut out),
+        "There is a fault at byte 8 of the file of long rules.",
+        "Mend what begins there.",
+    );
+    says(
+        split(&LONG[..46], &mut out),
+        "There is a fault at byte 0 of the file of long rules.",
+        "Mend that byte, or the file's length.",
+    );
+    let mut many = LONG;
+    many[1] = 63;
+    says(
+        split(&many, &mut out),
+        "Split up, these rules need more than 64 nonterminals or more than 256 rules.",
+        "Shorten the longest rules, or make two sets of this one.",
+    );
+    says(
+        split(&LONG, &mut out[..44]),
+        "The output is shorter than the file to be written.",
+        "Lend 1,560 bytes, which are always enough.",
+    );
+}
+
 /// For every call and answer, and for numbers that are none: two sentences, and a number only where one is meant.
 #[test]
 fn every_message_is_two_sentences() {
@@ -203,6 +230,7 @@ fn every_message_is_two_sentences() {
         Call::Fragment,
         Call::Join,
         Call::NetDepth,
+        Call::Split,
     ] {
         for answer in 1..=18 {
             let refusal = Refusal::of(call, answer, 987_654);
@@ -213,7 +241,7 @@ fn every_message_is_two_sentences() {
             assert_eq!(words.contains("987654"), meant, "{words}");
         }
     }
-    let unknown: Result<(), _> = Err(Refusal::of(Call::Page, 16, 0));
+    let unknown: Result<(), _> = Err(Refusal::of(Call::Page, 18, 0));
     says(
         unknown,
         "The library gave an answer that has no name here.",

@@ -1,8 +1,9 @@
-//! The raw calls with no bytes, no table and no row as a null pointer of length 0: each is answered as if they were empty slices.
+//! The raw calls with no bytes, no table, no row and no output as a null pointer of length 0: each is answered as if they were empty
+//! slices.
 
 mod common;
 
-use common::{open, K};
+use common::{open, K, LONG};
 use std::ptr::{null, null_mut};
 use ujthanor::{raw, BUDGET, ROW, TABLE};
 
@@ -98,4 +99,21 @@ fn net_depths() {
         ]
     };
     assert_eq!((answers, number, depth), ([15, 7], 0, 0));
+}
+
+#[test]
+fn splits() {
+    let (mut number, mut out) = (UNSET, [9; 45]);
+    let (long, room) = (LONG.as_ptr(), out.len());
+    // SAFETY: as in `checks`.
+    let answers = unsafe {
+        let (n, o) = (&mut number, out.as_mut_ptr());
+        [
+            raw::ujthanor_split(null(), 0, o, room, n),
+            raw::ujthanor_split(long, LONG.len(), null_mut(), 0, n),
+            raw::ujthanor_split(null(), 0, null_mut(), 0, n),
+        ]
+    };
+    assert_eq!((answers, number), ([7, 17, 7], 0));
+    assert_eq!(out, [9; 45]);
 }

@@ -2,11 +2,11 @@
 
 mod common;
 
-use common::K;
+use common::{K, LONG};
 use ujthanor::{
-    check, fragment, join, net_depth, page, Answer, Call, Number, Pass, Refusal, Summary,
+    check, fragment, join, net_depth, page, split, Answer, Call, Number, Pass, Refusal, Summary,
 };
-use ujthanor::{BUDGET, ROW, TABLE};
+use ujthanor::{BUDGET, LONGEST, ROW, TABLE};
 
 fn refused<T>(call: Call, answer: Answer, number: u64) -> Result<T, Refusal> {
     Err(Refusal::of(call, answer as u32, number))
@@ -90,13 +90,38 @@ fn cached_parts() {
 }
 
 #[test]
+fn a_long_rule() {
+    let mut out = [9; LONGEST];
+    assert_eq!(split(&LONG, &mut out), Ok(45));
+    assert_eq!(out[1], 3);
+    assert_eq!(out[16..28], [0, 2, 0, 65, 1, 2, 1, 66, 2, 2, 33, 32]);
+    assert_eq!(out[28..45], K[28..]);
+    assert!(out[45..].iter().all(|&byte| byte == 9));
+    let pass = check(&out[..45], &mut [7; TABLE], BUDGET).unwrap();
+    assert_eq!((pass.round, pass.images), (4, 3));
+}
+
+#[test]
+fn splits_refused() {
+    let mut out = [9; LONGEST];
+    let refused = |answer, number| refused(Call::Split, answer, number);
+    assert_eq!(split(&K, &mut out), refused(Answer::BadFile, 8));
+    let mut many = LONG;
+    many[1] = 63;
+    assert_eq!(split(&many, &mut out), refused(Answer::TooMany, 0));
+    let short = split(&LONG, &mut out[..44]);
+    assert_eq!(short, refused(Answer::ShortOutput, 0));
+    assert_eq!(out, [9; LONGEST]);
+}
+
+#[test]
 fn every_answer_has_its_name() {
-    for number in (1..=15).chain([17]) {
+    for number in 1..=17 {
         let answer = Answer::of(number);
         assert_eq!(answer as u32, number);
         assert_ne!(answer, Answer::Unknown);
     }
-    assert_eq!(Answer::of(16), Answer::Unknown);
+    assert_eq!(Answer::of(18), Answer::Unknown);
 }
 
 #[test]
@@ -112,6 +137,7 @@ fn a_refusal_knows_what_its_number_is() {
         Call::Fragment,
         Call::Join,
         Call::NetDepth,
+        Call::Split,
     ] {
         assert_eq!(number(call, Answer::BadFile), Number::Place(5));
     }
@@ -123,5 +149,8 @@ fn a_refusal_knows_what_its_number_is() {
     assert_eq!(number(Call::Join, Answer::TooDeep), Number::Nothing);
     for answer in [Answer::NoPage, Answer::BadBudget, Answer::ShortTable] {
         assert_eq!(number(Call::Check, answer), Number::Nothing);
+    }
+    for answer in [Answer::TooMany, Answer::ShortOutput] {
+        assert_eq!(number(Call::Split, answer), Number::Nothing);
     }
 }

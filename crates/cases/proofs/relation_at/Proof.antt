@@ -16,14 +16,14 @@ loop-holds c = search needs
 sub-k : tie.Need-sub-k Inv-loop μ-loop
 sub-k c = search needs
 
-add-long : tie.Need-add-long Inv-loop μ-loop
-add-long c = search needs
+add-entry : tie.Need-add-entry Inv-loop μ-loop
+add-entry c = search needs
 
-shared-slice-read-long : tie.Need-shared-slice-read-long Inv-loop μ-loop
-shared-slice-read-long c = search needs
+shared-slice-read-entry : tie.Need-shared-slice-read-entry Inv-loop μ-loop
+shared-slice-read-entry c = search needs
 
-long-requires : tie.Need-long-requires Inv-loop μ-loop
-long-requires c κs = search needs
+entry-requires : tie.Need-entry-requires Inv-loop μ-loop
+entry-requires c κs = search needs
 
 loop-less : tie.Need-loop-less Inv-loop μ-loop
 loop-less c = search needs
@@ -42,9 +42,9 @@ relation-at-spec =
     μ-loop
     loop-holds
     sub-k
-    add-long
-    shared-slice-read-long
-    long-requires
+    add-entry
+    shared-slice-read-entry
+    entry-requires
     loop-less
     loop-again
     returns)

@@ -20,11 +20,11 @@ word-requires-2 c κs = search needs
 loop-holds : tie.Need-loop-holds Inv-loop μ-loop
 loop-holds c = search needs
 
-array-read-long : tie.Need-array-read-long Inv-loop μ-loop
-array-read-long c = search needs
+array-read-entry : tie.Need-array-read-entry Inv-loop μ-loop
+array-read-entry c = search needs
 
-long-requires : tie.Need-long-requires Inv-loop μ-loop
-long-requires c κs = search needs
+entry-requires : tie.Need-entry-requires Inv-loop μ-loop
+entry-requires c κs = search needs
 
 word-requires-3 : tie.Need-word-requires-3 Inv-loop μ-loop
 word-requires-3 c κs = search needs
@@ -53,8 +53,8 @@ show-summary-spec =
     word-requires
     word-requires-2
     loop-holds
-    array-read-long
-    long-requires
+    array-read-entry
+    entry-requires
     word-requires-3
     add-k
     loop-less

@@ -5,6 +5,7 @@
 pub mod contexts;
 pub mod derive;
 pub mod reading;
+pub mod short;
 pub mod trees;
 pub mod verdict;
 pub mod words;

@@ -1,22 +1,29 @@
 //! A template file in the making. Writing it sorts the bodies and drops what is there twice or past
 //! the limits, so that every draft within its own numbers is a sound file.
 
-use plain::file::File;
+use plain::file::{Wide, LONG_RULE, RULE};
 
+/// A draft whose template rules have W bytes.
 #[derive(Clone, Debug)]
-pub struct Draft {
+pub struct WideDraft<const W: usize> {
     pub names: u8,
     pub nonterminals: u8,
     pub states: u8,
-    pub rules: Vec<[u8; 4]>,
+    pub rules: Vec<[u8; W]>,
     pub schema: Vec<[u8; 4]>,
     pub ending: Vec<u8>,
 }
 
-/// A template rule; `symbols` are at most two.
-pub fn rule(left: u8, symbols: &[u8]) -> [u8; 4] {
-    let at = |i: usize| symbols.get(i).copied().unwrap_or(255);
-    [left, symbols.len() as u8, at(0), at(1)]
+/// An ordinary draft, and one of a file of long rules.
+pub type Draft = WideDraft<RULE>;
+pub type LongDraft = WideDraft<LONG_RULE>;
+
+/// A template rule; `symbols` are at most W - 2.
+pub fn rule<const W: usize>(left: u8, symbols: &[u8]) -> [u8; W] {
+    let mut rule = [255; W];
+    (rule[0], rule[1]) = (left, symbols.len() as u8);
+    rule[2..2 + symbols.len()].copy_from_slice(symbols);
+    rule
 }
 
 /// The symbol of a nonterminal.
@@ -33,10 +40,10 @@ pub fn end(name: u8) -> u8 {
     32 + name
 }
 
-impl Draft {
+impl<const W: usize> WideDraft<W> {
     /// The sound file.
     pub fn bytes(&self) -> Vec<u8> {
-        lay(&Draft {
+        lay(&WideDraft {
             rules: ascending(&self.rules, 256),
             schema: ascending(&self.schema, 128),
             ending: ascending(&self.ending, self.states as usize),
@@ -46,8 +53,8 @@ impl Draft {
 }
 
 /// The file of a draft as it stands, sound or not.
-pub fn lay(draft: &Draft) -> Vec<u8> {
-    File {
+pub fn lay<const W: usize>(draft: &WideDraft<W>) -> Vec<u8> {
+    Wide {
         names: draft.names,
         nonterminals: draft.nonterminals,
         states: draft.states,

@@ -1,6 +1,6 @@
-//! Lengths of tables and rows, and budgets.
+//! Lengths of tables, rows and outputs, and budgets.
 
-use plain::TABLE;
+use plain::{LONGEST, TABLE};
 use seeds::Rng;
 
 /// Mostly a little more than needed.
@@ -37,5 +37,16 @@ pub fn row(rng: &mut Rng) -> usize {
         1 => 19,
         2..=4 => rng.within(21, 40),
         _ => 20,
+    }
+}
+
+/// The length of an output for a file of so many bytes, mostly enough.
+pub fn output(needed: usize, rng: &mut Rng) -> usize {
+    match rng.below(16) {
+        0 => rng.below(needed + 1),
+        1 => needed.saturating_sub(1),
+        2..=5 => needed,
+        6 | 7 => needed + rng.within(1, 40),
+        _ => LONGEST + rng.below(4),
     }
 }

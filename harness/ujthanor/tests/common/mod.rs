@@ -7,6 +7,12 @@ pub const K: [u8; 45] = [
     0, 0, 1, 0, 0, 1, 0, 0, 1, 1, 1, 1, 0, 1, 1, 1,
 ];
 
+/// Its page as one rule of four symbols, under the same schema.
+pub const LONG: [u8; 47] = [
+    2, 1, 2, 0, 16, 0, 1, 0, 30, 0, 4, 0, 46, 0, 1, 0, 0, 4, 0, 1, 33, 32, 255, 255, 255, 255, 255,
+    255, 255, 255, 0, 0, 0, 1, 0, 0, 1, 0, 0, 1, 1, 1, 1, 0, 1, 1, 1,
+];
+
 /// One name, under a schema whose one state is ending and takes any elements.
 pub fn open(nonterminals: u8, rules: &[[u8; 4]]) -> Vec<u8> {
     let (count, end) = (rules.len() as u8, 16 + 4 * rules.len() as u8);
