@@ -4,6 +4,7 @@ pub mod ValueLaws
 pub mod ReducedLaws
 pub mod StepLaws
 pub mod ReadLaws
+pub mod OutermostLaws
 pub mod MismatchLaws
 pub mod JoinLaws
 pub mod LimitLaws
