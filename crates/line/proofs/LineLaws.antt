@@ -10,9 +10,9 @@ use lib.Seq.{take-set-le, drop-set-lt, drop-cons, getD-set-same, take-at, drop-a
 use borrow.Author.Needs.{needs}
 use Rattle.line.specs.Decimal.{digitZero, mostDigits, digits, places, decimal}
 use Rattle.rounds.specs.declared.CheckReply.{CheckReply}
-use Rattle.rounds.specs.Checks.{CheckSays}
+use Rattle.rounds.specs.Checks.{mostRounds, CheckSays}
 use Rattle.rounds.specs.Answers.{answer, number, images}
-use Rattle.line.specs.Lines.{programBudget, longestLine, space, newline, lineOf, over, Shows, Prints}
+use Rattle.line.specs.Lines.{longestLine, space, newline, lineOf, over, Shows, Prints}
 use Rattle.line.specs.declared.Line.{Line}
 use Rattle.line.proofs.ReadLaws.{digits-length, decimal-length}
 
@@ -150,7 +150,7 @@ module _ (a n m second third end : ℕ) (blank one two three : List ℕ) where
         bytes-are = second′ ∙ rw (line, b0) (over-blank (lineOf a n m));
       }
 
-pub check-prints : (f t : List ℕ) (r : CheckReply) (l : Line) (t′ : List ℕ) (a n m : ℕ) → CheckSays f t programBudget r t′ → a ≡ answer r
+pub check-prints : (f t : List ℕ) (r : CheckReply) (l : Line) (t′ : List ℕ) (a n m : ℕ) → CheckSays f t mostRounds r t′ → a ≡ answer r
     → n ≡ number r → m ≡ images r → Shows l (lineOf a n m) → Prints f t l t′
 check-prints f t r l t′ a n m says e d c shows = record { reply = r; says = says; shows = rw (← e, ← d, ← c) shows }
 

@@ -22,7 +22,7 @@ use Rattle.template.proofs.OrderLaws.{first-append, nowhere-holds}
 use Rattle.template.proofs.SoundLaws.{sound-file, sound-length}
 use Rattle.rounds.specs.declared.CheckReply.{CheckReply}
 use Rattle.rounds.specs.declared.CheckReply.the-variants as check
-use Rattle.rounds.specs.Checks.{CheckSays}
+use Rattle.rounds.specs.Checks.{mostRounds, CheckSays}
 use Rattle.line.specs.Lines.{room, Prints}
 use Rattle.line.specs.declared.Line.{Line}
 
@@ -143,7 +143,7 @@ room-decides f t l t′ p =
       | no h ↦
           record {
             reply = p .reply;
-            says = cut-says room f (omega arith) (omega arith) t 64 (p .reply) t′ (p .says);
+            says = cut-says room f (omega arith) (omega arith) t mostRounds (p .reply) t′ (p .says);
             shows = p .shows;
           }
     ]

@@ -1,20 +1,17 @@
--- The line that the program prints for a file (Rules, section 11): the answer, the number and the images of a check with budget 64, in
--- decimal, with single spaces and a newline.
+-- The line that the program prints for a file (Rules, section 11): the answer, the number and the images of a check with the largest
+-- budget, in decimal, with single spaces and a newline.
 use mathlib.Core.Path.{_≡_}
 use mathlib.Core.List.{List, [], _∷_, _++_}
 use Prim.Native.Nat.{ℕ, _+_, _-_, _*_}
 use lib.ListN.{length, take, drop, replicate}
 use Rattle.template.specs.Layout.{longestFile}
 use Rattle.rounds.specs.declared.CheckReply.{CheckReply}
-use Rattle.rounds.specs.Checks.{CheckSays}
+use Rattle.rounds.specs.Checks.{mostRounds, CheckSays}
 use Rattle.rounds.specs.Answers.{answer, number, images}
 use Rattle.line.specs.Decimal.{mostDigits, decimal}
 use Rattle.line.specs.declared.Line.{Line}
 
--- the budget of the program's check, the most bytes of a line, and how many bytes of its input the program looks at
-abbrev pub programBudget : ℕ
-programBudget = 64
-
+-- the most bytes of a line, and how many bytes of its input the program looks at
 abbrev pub longestLine : ℕ
 longestLine = 3 * (mostDigits + 1)
 
@@ -44,5 +41,5 @@ pub record Shows (l : Line) (text : List ℕ) : Type 0 where
 -- the line is that of what the check of the file answers, and the worktable is left as the check leaves it
 pub record Prints (f t : List ℕ) (l : Line) (t′ : List ℕ) : Type 0 where
   pub reply : CheckReply
-  pub says : CheckSays f t programBudget reply t′
+  pub says : CheckSays f t mostRounds reply t′
   pub shows : Shows l (lineOf (answer reply) (number reply) (images reply))

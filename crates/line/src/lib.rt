@@ -7,9 +7,6 @@ ghost use lib.ListN.{length};
 ghost use Rattle.line.specs.Decimal.{digitZero, digits, places, decimal, mostDigits};
 ghost use Rattle.line.specs.Lines.{over, lineOf, Shows, Prints};
 
-// The budget of the program's check.
-pub const BUDGET: usize = 64;
-
 // The most digits of a number of 64 bits.
 const DIGITS: usize = 20;
 
@@ -86,11 +83,12 @@ fn line_of(a: u64, n: u64, m: u64) -> Line
     }
 }
 
-// Checks a template file with the program's budget, over a lent worktable, and gives the line of the answer, the number and the images.
+// Checks a template file with the largest budget, which always decides, over a lent worktable, and gives the line of the answer, the number
+// and the images.
 pub fn checked(file: &[u8], table: &mut [u64]) -> Line
     ensures { λ r. ⌜ Prints (now (file .entry)) (now (table .entry)) r (now (table .exit)) ⌝ }
 {
-    let r = rounds::check(file, table, BUDGET);
+    let r = rounds::check(file, table, rounds::ROUNDS);
     let a = rounds::answer(r) as u64;
     line_of(a, rounds::number(r), rounds::images(r))
 }
