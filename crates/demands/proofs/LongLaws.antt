@@ -10,7 +10,7 @@ use lib.ListN.{length, take, drop, length-append, length-drop}
 use lib.Seq.{take-append-seam, drop-append-seam}
 use Rattle.words.specs.Tags.{Tag}
 use Rattle.hedge.specs.Schema.{Schema, schemaFrom, Valid}
-use Rattle.template.specs.Layout.{longestFile, nameCount}
+use Rattle.template.specs.Layout.{longestFile, nameCount, nonterminals}
 use Rattle.template.specs.Order.{SoundOf, readingOf}
 use Rattle.template.specs.declared.Reading.the-variants.{Bad}
 use Rattle.template.proofs.SoundLaws.{sound-file, sound-file-of, sound-length}
@@ -19,8 +19,8 @@ use Rattle.reader.specs.Reads.{Spelled}
 use Rattle.rounds.specs.Checks.{CheckSays}
 use Rattle.rounds.specs.Answers.{answer as checkAnswer}
 use Rattle.rounds.specs.declared.CheckReply.{CheckReply}
-use Rattle.long.specs.Rules.{longSymbols}
-use Rattle.long.specs.Splits.{Fits, Shortens, SplitSays, answer, number}
+use Rattle.long.specs.Rules.{longSymbols, PartsFit}
+use Rattle.long.specs.Splits.{longRules, Shortens, SplitSays, answer, number}
 use Rattle.long.specs.declared.SplitReply.{SplitReply}
 use Rattle.long.specs.declared.SplitReply.the-variants as split
 use Rattle.long.proofs.SameLaws.{shortened-strings}
@@ -71,7 +71,7 @@ module _ (f out out′ : List ℕ) (r : SplitReply) (says : SplitSays f out r ou
   split-bad p =
       in-words (placed (splitReplies f out) r (out′, says) 7 p refl refl) (λ (u, (bad, e)). bad) (λ bad. (out, (bad, refl)))
 
-  split-short : (answer r ≡ 17) ↔ (SoundOf longSymbols f × Fits f × ((F : List ℕ) × Shortens f F × (length out < length F)))
+  split-short : (answer r ≡ 17) ↔ (SoundOf longSymbols f × PartsFit (nonterminals f) (longRules f) × ((F : List ℕ) × Shortens f F × (length out < length F)))
   split-short =
       in-words (bare (splitReplies f out) r (out′, says) 17 refl (λ n. refl))
       (λ (u, (sound, fits, short, e)). (sound, fits, short)) (λ (sound, fits, short). (out, (sound, fits, short, refl)))

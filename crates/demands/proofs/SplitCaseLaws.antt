@@ -14,8 +14,8 @@ use Rattle.template.specs.Layout.{mostNonterminals, mostRules, nonterminals, ha
 use Rattle.template.specs.Order.{SoundOf, firstFault, headTests, contentsTests, symbolTests, fieldTests, width, precedes, ascends}
 use Rattle.template.specs.Order.{entryTests, bodyTests, bodies, tests}
 use Rattle.save.specs.Files.{Bytes, headOf, fileOf}
-use Rattle.long.specs.Rules.{longSymbols, longField, longCount, extras, restOf, part, partsOf, allParts}
-use Rattle.long.specs.Splits.{longRules, allExtras, Fits, Shortens, SplitSays}
+use Rattle.long.specs.Rules.{longSymbols, longField, longCount, extras, PartsFit, restOf, part, partsOf, allParts}
+use Rattle.long.specs.Splits.{longRules, allExtras, Shortens, SplitSays}
 use Rattle.long.specs.declared.SplitReply.the-variants.{Written, Short}
 use Rattle.long.proofs.UniqueLaws.{split-unique}
 use Rattle.long.proofs.WrittenLaws.{writtenFile, written-shortens}
@@ -41,7 +41,7 @@ sound : SoundOf longSymbols longCase
 unfolding longCase tests headTests contentsTests bodies bodyTests entryTests fieldTests symbolTests firstFault ascends precedes width halfAt
 sound = refl
 
-fits : Fits longCase
+fits : PartsFit (nonterminals longCase) (longRules longCase)
 unfolding longCase halfAt partOf longField extras
 fits = (
   leb-true (nonterminals longCase + allExtras longCase) mostNonterminals refl,

@@ -15,8 +15,8 @@ use Rattle.trees.specs.Trees.{Tree}
 use Rattle.rounds.specs.Checks.{RuleOf, CheckSays}
 use Rattle.rounds.specs.Answers.{answer as checkAnswer}
 use Rattle.rounds.specs.declared.CheckReply.{CheckReply}
-use Rattle.long.specs.Rules.{longSymbols, LongGives}
-use Rattle.long.specs.Splits.{longRules, Fits, Shortens}
+use Rattle.long.specs.Rules.{longSymbols, LongGives, PartsFit}
+use Rattle.long.specs.Splits.{longRules, Shortens}
 use Rattle.demands.specs.Third.{ReadAsValid}
 
 -- 7, 16, 17, else 0 with the bytes of the written file: each exactly where none before it is due, and 17 never where the output has room for
@@ -25,10 +25,10 @@ pub record SplitOrder (f out : List ℕ) (a n : ℕ) (out′ : List ℕ) : Type 
   pub numbered : List·Memᴰ a (0 ∷ 7 ∷ 16 ∷ 17 ∷ [])
   pub bad-file : (a ≡ 7) ↔ (SoundOf longSymbols f → ⊥)
   pub place : a ≡ 7 → (answer (readingOf longSymbols f) ≡ 7) × (n ≡ number (readingOf longSymbols f))
-  pub too-many : (a ≡ 16) ↔ (SoundOf longSymbols f × (Fits f → ⊥))
-  pub short : (a ≡ 17) ↔ (SoundOf longSymbols f × Fits f × ((F : List ℕ) × Shortens f F × (length out < length F)))
+  pub too-many : (a ≡ 16) ↔ (SoundOf longSymbols f × (PartsFit (nonterminals f) (longRules f) → ⊥))
+  pub short : (a ≡ 17) ↔ (SoundOf longSymbols f × PartsFit (nonterminals f) (longRules f) × ((F : List ℕ) × Shortens f F × (length out < length F)))
   pub written : (k : ℕ)
-      → ((a ≡ 0) × (n ≡ k)) ↔ (SoundOf longSymbols f × Fits f × ((F : List ℕ) × Shortens f F × (k ≡ length F) × (k ≤ length out)))
+      → ((a ≡ 0) × (n ≡ k)) ↔ (SoundOf longSymbols f × PartsFit (nonterminals f) (longRules f) × ((F : List ℕ) × Shortens f F × (k ≡ length F) × (k ≤ length out)))
   pub room-suffices : longestFile ≤ length out → a ≡ 17 → ⊥
   pub no-number : (a ≡ 16) ⊎ (a ≡ 17) → n ≡ 0
   pub refused-unchanged : 1 ≤ a → out′ ≡ out

@@ -12,19 +12,19 @@ use Rattle.line.specs.Decimal.{digitZero, mostDigits, digits, places, de
 use Rattle.rounds.specs.declared.CheckReply.{CheckReply}
 use Rattle.rounds.specs.Checks.{mostRounds, CheckSays}
 use Rattle.rounds.specs.Answers.{answer, number, images}
-use Rattle.line.specs.Lines.{longestLine, space, newline, lineOf, over, Shows, Prints}
+use Rattle.line.specs.Lines.{longestLine, space, newline, lineOf, overFrom, Shows, Prints}
 use Rattle.line.specs.declared.Line.{Line}
 use Rattle.line.proofs.ReadLaws.{digits-length, decimal-length}
 
 -- ---- written over a list
 
-pub over-none : (at : ℕ) (out : List ℕ) → over at [] out ≡ out
-unfolding over
+pub over-none : (at : ℕ) (out : List ℕ) → overFrom at [] out ≡ out
+unfolding overFrom
 over-none at out = rw (add-zero, take-append-drop)
 
 pub over-last : (at : ℕ) (xs out : List ℕ) (b : ℕ) → at + length xs < length out
-    → over at xs (set out (at + length xs) b) ≡ over at (xs ++ (b ∷ [])) out
-unfolding over
+    → overFrom at xs (set out (at + length xs) b) ≡ overFrom at (xs ++ (b ∷ [])) out
+unfolding overFrom
 over-last at xs out b h =
     let j = at + length xs in
     let long : j < length (set out j b) = rw (length-set) h in
@@ -34,8 +34,8 @@ over-last at xs out b h =
     rw (take-set-le at out j b (omega arith), rest, end, append-snoc xs b (drop (suc j) out))
 
 pub over-over : (at : ℕ) (xs ys out : List ℕ) → at + length xs ≤ length out
-    → over (at + length xs) ys (over at xs out) ≡ over at (xs ++ ys) out
-unfolding over
+    → overFrom (at + length xs) ys (overFrom at xs out) ≡ overFrom at (xs ++ ys) out
+unfolding overFrom
 over-over at xs ys out h =
     let j = at + length xs in
     let front = take at out ++ xs in
@@ -57,29 +57,29 @@ kept-length u out i v e = e ∙ length-set out i v
 -- ---- the digits of a number, the last one first: those still to come are written over what is there
 
 module _ (at : ℕ) where
-  pub digits-none : (k n : ℕ) (out : List ℕ) → over at (digits (at + k - at) n) out ≡ over at (digits k n) out
+  pub digits-none : (k n : ℕ) (out : List ℕ) → overFrom at (digits (at + k - at) n) out ≡ overFrom at (digits k n) out
   digits-none k n out = let e : at + k - at ≡ k = omega arith in rw e
 
-  module _ (whole out : List ℕ) (i rest : ℕ) (so-far : over at (digits (i - at) rest) out ≡ whole) where
+  module _ (whole out : List ℕ) (i rest : ℕ) (so-far : overFrom at (digits (i - at) rest) out ≡ whole) where
     pub digits-next : (d long : ℕ) → at < i → i ≤ long → length out ≡ long → d ≡ digitZero + rest % 10
-        → over at (digits (i - 1 - at) (rest / 10)) (set out (i - 1) d) ≡ whole
+        → overFrom at (digits (i - 1 - at) (rest / 10)) (set out (i - 1) d) ≡ whole
     unfolding digits
     digits-next d long h most same is =
         let j = i - 1 - at in
         let xs = digits j (rest / 10) in
         let next : i - at ≡ suc j = omega arith in
         let place : i - 1 ≡ at + length xs = rw (digits-length j (rest / 10)) (omega arith) in
-        let more = subst (λ (z : ℕ). over at (digits z rest) out ≡ whole) next so-far in
-        ap (λ (z : ℕ). over at xs (set out z d)) place
+        let more = subst (λ (z : ℕ). overFrom at (digits z rest) out ≡ whole) next so-far in
+        ap (λ (z : ℕ). overFrom at xs (set out z d)) place
         ∙ over-last at xs out d (omega (arith, place, same, most))
-        ∙ ap (λ (z : ℕ). over at (xs ++ (z ∷ [])) out) is
+        ∙ ap (λ (z : ℕ). overFrom at (xs ++ (z ∷ [])) out) is
         ∙ more
 
     pub digits-end : i ≤ at → out ≡ whole
     unfolding digits
     digits-end h =
         let e : i - at ≡ 0 = omega arith in
-        sym (over-none at out) ∙ subst (λ (z : ℕ). over at (digits z rest) out ≡ whole) e so-far
+        sym (over-none at out) ∙ subst (λ (z : ℕ). overFrom at (digits z rest) out ≡ whole) e so-far
 
 pub ruleset spells = (set-length, digits-none, digits-next, digits-end, needs)
 
@@ -91,15 +91,15 @@ module _ (at n last k : ℕ) (out : List ℕ) where
 
   module _ (counted : k ≡ places n) where
     pub number-put : (out′ : List ℕ) → at + (mostDigits + 1) ≤ length out → k ≤ mostDigits
-        → out′ ≡ over at (digits k n) (set out (at + k) last) → out′ ≡ over at (decimal n ++ (last ∷ [])) out
+        → out′ ≡ overFrom at (digits k n) (set out (at + k) last) → out′ ≡ overFrom at (decimal n ++ (last ∷ [])) out
     unfolding decimal
     number-put out′ fits few written =
         let ds = digits (places n) n in
         let long : length ds ≡ places n = digits-length (places n) n in
         let place : at + k ≡ at + length ds = omega (arith, long, counted) in
         written
-        ∙ ap (λ (z : ℕ). over at (digits z n) (set out (at + k) last)) counted
-        ∙ ap (λ (z : ℕ). over at ds (set out z last)) place
+        ∙ ap (λ (z : ℕ). overFrom at (digits z n) (set out (at + k) last)) counted
+        ∙ ap (λ (z : ℕ). overFrom at ds (set out z last)) place
         ∙ over-last at ds out last (omega (arith, long, counted))
 
     pub number-end : at + k + 1 ≡ at + length (decimal n ++ (last ∷ []))
@@ -122,16 +122,16 @@ ended-line : (a n m : ℕ) → (ended a space ++ ended n space) ++ ended m newli
 ended-line a n m =
     rw (append-assoc (ended a space), append-assoc (decimal a), append-assoc (decimal n))
 
-over-blank : (text : List ℕ) → over 0 text (replicate longestLine 0) ≡ text ++ replicate (longestLine - length text) 0
-unfolding over
+over-blank : (text : List ℕ) → overFrom 0 text (replicate longestLine 0) ≡ text ++ replicate (longestLine - length text) 0
+unfolding overFrom
 over-blank text = let e : 0 + length text ≡ length text = omega arith in rw (e, drop-replicate (length text) longestLine)
 
 module _ (a n m second third end : ℕ) (blank one two three : List ℕ) where
-  pub line-shows : blank ≡ replicate longestLine 0 → one ≡ over 0 (ended a space) blank
+  pub line-shows : blank ≡ replicate longestLine 0 → one ≡ overFrom 0 (ended a space) blank
       → (second ≡ 0 + length (ended a space)) × (second ≤ 0 + (mostDigits + 1))
-      → two ≡ over second (ended n space) one
+      → two ≡ overFrom second (ended n space) one
       → (third ≡ second + length (ended n space)) × (third ≤ second + (mostDigits + 1))
-      → three ≡ over third (ended m newline) two
+      → three ≡ overFrom third (ended m newline) two
       → (end ≡ third + length (ended m newline)) × (end ≤ third + (mostDigits + 1))
       → Shows (record { bytes = three; len = end }) (lineOf a n m)
   line-shows b0 b1 (s, s′) b2 (t, t′) b3 (e, e′) =
@@ -141,9 +141,9 @@ module _ (a n m second third end : ℕ) (blank one two three : List ℕ) where
       let long : length blank ≡ longestLine = ap length b0 ∙ length-replicate {A = ℕ} longestLine 0 in
       let AN = length-append A N in
       let ANM = length-append (A ++ N) M in
-      let first : two ≡ over 0 (A ++ N) blank = b2 ∙ rw (b1, s) (over-over 0 A N blank (omega arith)) in
+      let first : two ≡ overFrom 0 (A ++ N) blank = b2 ∙ rw (b1, s) (over-over 0 A N blank (omega arith)) in
       let place : third ≡ 0 + length (A ++ N) = omega (arith, AN, s, t) in
-      let second′ : three ≡ over 0 ((A ++ N) ++ M) blank = b3 ∙ rw (first, place) (over-over 0 (A ++ N) M blank (omega (arith, long, AN, s, t, t′, s′))) in
+      let second′ : three ≡ overFrom 0 ((A ++ N) ++ M) blank = b3 ∙ rw (first, place) (over-over 0 (A ++ N) M blank (omega (arith, long, AN, s, t, t′, s′))) in
       let line = ended-line a n m in
       record {
         length-is = omega (arith, ap length line, ANM, AN, s, t, e);

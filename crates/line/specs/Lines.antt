@@ -30,8 +30,8 @@ abbrev pub lineOf : ℕ → ℕ → ℕ → List ℕ
 lineOf a n m = decimal a ++ (space ∷ (decimal n ++ (space ∷ (decimal m ++ (newline ∷ [])))))
 
 -- entries written over those of a list from a place on
-unfoldable pub over : ℕ → List ℕ → List ℕ → List ℕ
-over at xs out = take at out ++ (xs ++ drop (at + length xs) out)
+unfoldable pub overFrom : ℕ → List ℕ → List ℕ → List ℕ
+overFrom at xs out = take at out ++ (xs ++ drop (at + length xs) out)
 
 -- a line shows a text: that it is, and zeros behind it
 pub record Shows (l : Line) (text : List ℕ) : Type 0 where

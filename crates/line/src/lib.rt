@@ -5,7 +5,7 @@ ghost use mathlib.Core.List.{[], _∷_, _++_};
 ghost use Prim.Native.Nat.{_+_, _≤_, _%_};
 ghost use lib.ListN.{length};
 ghost use Rattle.line.specs.Decimal.{digitZero, digits, places, decimal, mostDigits};
-ghost use Rattle.line.specs.Lines.{over, lineOf, Shows, Prints};
+ghost use Rattle.line.specs.Lines.{overFrom, lineOf, Shows, Prints};
 
 // The most digits of a number of 64 bits.
 const DIGITS: usize = 20;
@@ -45,7 +45,7 @@ fn count(n: u64) -> usize
 // Writes the last k digits of a number from a place on, the last one first.
 fn put_digits(out: &mut [u8], at: usize, k: usize, n: u64)
     requires { ⌜ at + k ≤ length (now out) ⌝ }
-    ensures { λ r. ⌜ now (out .exit) ≡ over at (digits k n) (now (out .entry)) ⌝ }
+    ensures { λ r. ⌜ now (out .exit) ≡ overFrom at (digits k n) (now (out .entry)) ⌝ }
 {
     let mut i = at + k;
     let mut rest = n;
@@ -59,7 +59,7 @@ fn put_digits(out: &mut [u8], at: usize, k: usize, n: u64)
 // Writes a number and the byte that ends it from a place on, and gives the place behind them.
 fn put_number(out: &mut [u8], at: usize, n: u64, last: u8) -> usize
     requires { ⌜ at + (mostDigits + 1) ≤ length (now out) ⌝ }
-    ensures { λ r. ⌜ now (out .exit) ≡ over at (decimal n ++ (last ∷ [])) (now (out .entry)) ⌝ }
+    ensures { λ r. ⌜ now (out .exit) ≡ overFrom at (decimal n ++ (last ∷ [])) (now (out .entry)) ⌝ }
     ensures { λ r. ⌜ (r ≡ at + length (decimal n ++ (last ∷ []))) × (r ≤ at + (mostDigits + 1)) ⌝ }
 {
     let k = count(n);

@@ -27,8 +27,8 @@ use Rattle.save.proofs.FileLaws.{ReadsAs, file-numbers}
 use Rattle.save.proofs.HoldLaws.{BodyHolds, FileHolds, body-holds, file-is-sound}
 use Rattle.save.proofs.RowLaws.{flat-whole, flat-entries, flat-ascends}
 use Rattle.save.proofs.UniqueLaws.{bytes-append, file-bytes}
-use Rattle.long.specs.Rules.{longSymbols, longCount, IsPart, allParts}
-use Rattle.long.specs.Splits.{longRules, allExtras, Fits, Shortens}
+use Rattle.long.specs.Rules.{longSymbols, longCount, PartsFit, IsPart, allParts}
+use Rattle.long.specs.Splits.{longRules, allExtras, Shortens}
 use Rattle.long.proofs.BelowLaws.{long-count}
 use Rattle.long.proofs.PartLaws.{part-length}
 use Rattle.long.proofs.HoldLaws.{part-passes, part-byte}
@@ -68,7 +68,7 @@ endings-any A N M Q n list holds =
 
 -- ---- the written file
 
-module _ (f : List ℕ) (given : Bytes f) (sound : SoundOf longSymbols f) (fits : Fits f) where
+module _ (f : List ℕ) (given : Bytes f) (sound : SoundOf longSymbols f) (fits : PartsFit (nonterminals f) (longRules f)) where
   abbrev rules : List ℕ
   rules = longRules f
 

@@ -7,7 +7,7 @@ use mathlib.Core.List.{List, [], _∷_, _++_, map}
 use Prim.Native.Nat.{ℕ, zero, suc, _+_, _-_, _*_, _/_, _≤_, _<_, min}
 use lib.Dec.{ltb}
 use lib.ListN.{length, getD, take, drop}
-use Rattle.template.specs.Layout.{mostSymbols, ruleWidth}
+use Rattle.template.specs.Layout.{mostSymbols, ruleWidth, mostNonterminals, mostRules}
 use Rattle.template.specs.Grammar.{Symbol, symbolOf}
 
 -- how many symbols a long rule may have
@@ -44,6 +44,10 @@ extra rules i = longField rules i 1 - 2
 unfoldable pub extras : List ℕ → ℕ → ℕ
 extras rules zero = 0
 extras rules (suc i) = extras rules i + extra rules i
+
+-- with the new ones, the nonterminals and the rules are within the limits of an ordinary file
+abbrev pub PartsFit : ℕ → List ℕ → Type 0
+PartsFit N rules = (N + extras rules (longCount rules) ≤ mostNonterminals) × (longCount rules + extras rules (longCount rules) ≤ mostRules)
 
 -- the nonterminal for rule i behind its first t symbols, where N are there before: its left side, then new ones in the order of the rules
 unfoldable pub restOf : ℕ → List ℕ → ℕ → ℕ → ℕ

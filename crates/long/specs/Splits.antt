@@ -6,13 +6,13 @@ use mathlib.Core.List.{List, _++_}
 use mathlib.Core.Logic.{_↔_}
 use Prim.Native.Nat.{ℕ, _+_, _≤_, _<_}
 use lib.ListN.{length, drop}
-use Rattle.template.specs.Layout.{nameCount, nonterminals, states, mostNonterminals, mostRules}
+use Rattle.template.specs.Layout.{nameCount, nonterminals, states}
 use Rattle.template.specs.Layout.{templateRules, schemaRules, endingStates, templateRulesOf, schemaRulesOf, endingStatesOf}
 use Rattle.template.specs.Order.{IsSound, SoundOf, readingOf}
 use Rattle.template.specs.declared.Reading.the-variants.{Bad}
 use Rattle.save.specs.Entries.{Entry}
 use Rattle.save.specs.Files.{Bytes}
-use Rattle.long.specs.Rules.{longSymbols, longCount, extras, IsPart}
+use Rattle.long.specs.Rules.{longSymbols, longCount, extras, PartsFit, IsPart}
 use Rattle.long.specs.declared.SplitReply.{SplitReply}
 use Rattle.long.specs.declared.SplitReply.the-variants.{Written, BadFile, TooMany, Short}
 
@@ -23,10 +23,6 @@ module _ (f : List ℕ) where
   -- the new nonterminals of all rules: one for each symbol past the second in each
   abbrev pub allExtras : ℕ
   allExtras = extras longRules (longCount longRules)
-
-  -- the nonterminals and the rules of the ordinary file are within its limits
-  abbrev pub Fits : Type 0
-  Fits = (nonterminals f + allExtras ≤ mostNonterminals) × (longCount longRules + allExtras ≤ mostRules)
 
   -- F is the ordinary file: its template rules are exactly the parts of the long ones; the rest is as it was
   pub record Shortens (F : List ℕ) : Type 0 where
@@ -41,10 +37,10 @@ module _ (f : List ℕ) where
 
   abbrev pub SplitSays : List ℕ → SplitReply → List ℕ → Type 0
   SplitSays out (BadFile p) out′ = (readingOf longSymbols f ≡ Bad p) × (out′ ≡ out)
-  SplitSays out TooMany out′ = SoundOf longSymbols f × (Fits → ⊥) × (out′ ≡ out)
-  SplitSays out Short out′ = SoundOf longSymbols f × Fits × ((F : List ℕ) × Shortens F × (length out < length F)) × (out′ ≡ out)
+  SplitSays out TooMany out′ = SoundOf longSymbols f × (PartsFit (nonterminals f) longRules → ⊥) × (out′ ≡ out)
+  SplitSays out Short out′ = SoundOf longSymbols f × PartsFit (nonterminals f) longRules × ((F : List ℕ) × Shortens F × (length out < length F)) × (out′ ≡ out)
   SplitSays out (Written n) out′ =
-      SoundOf longSymbols f × Fits × ((F : List ℕ) × Shortens F × (n ≡ length F) × (n ≤ length out) × (out′ ≡ F ++ drop n out))
+      SoundOf longSymbols f × PartsFit (nonterminals f) longRules × ((F : List ℕ) × Shortens F × (n ≡ length F) × (n ≤ length out) × (out′ ≡ F ++ drop n out))
 
 -- the reply in numbers: 0 with the bytes written, 7 with the place, 16, 17
 abbrev pub answer : SplitReply → ℕ

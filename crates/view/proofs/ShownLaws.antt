@@ -18,7 +18,7 @@ use Rattle.template.specs.Layout.{pickPart, partOf, templateRules, schemaRules,
 use Rattle.template.specs.Order.{tests, firstFault, shapeOf, verdict, readingOf, reading, IsSound}
 use Rattle.template.proofs.ListLaws.{part-is}
 use Rattle.template.proofs.SoundLaws.{sound-reading, sound-file}
-use Rattle.view.specs.Views.{templatesOf, schemaOf, endingsOf, none, counted, ofSound, templatesIn, schemaIn, endingsIn}
+use Rattle.view.specs.Views.{templatesBy, schemaBy, endingsBy, none, counted, ofSound, templatesIn, schemaIn, endingsIn}
 
 -- a part of no entries is empty
 none-picked : (b : Bool) → pickPart b [] ≡ []
@@ -40,14 +40,14 @@ module _ (list : List ℕ → Shape → List ℕ) (held : List ℕ → List ℕ)
   unfolding readingOf
   shown-held f = shown-by f (firstFault (tests ruleSymbols f))
 
-pub templates-shown : (f : List ℕ) → templatesOf f (counted (reading f)) ≡ templatesIn f
-templates-shown = shown-held templatesOf templateRules (λ f. refl) (λ f. empty-part f 16)
+pub templates-shown : (f : List ℕ) → templatesBy f (counted (reading f)) ≡ templatesIn f
+templates-shown = shown-held templatesBy templateRules (λ f. refl) (λ f. empty-part f 16)
 
-pub schema-shown : (f : List ℕ) → schemaOf f (counted (reading f)) ≡ schemaIn f
-schema-shown = shown-held schemaOf schemaRules (λ f. refl) (λ f. empty-part f 16)
+pub schema-shown : (f : List ℕ) → schemaBy f (counted (reading f)) ≡ schemaIn f
+schema-shown = shown-held schemaBy schemaRules (λ f. refl) (λ f. empty-part f 16)
 
-pub endings-shown : (f : List ℕ) → endingsOf f (counted (reading f)) ≡ endingsIn f
-endings-shown = shown-held endingsOf endingStates (λ f. refl) (λ f. empty-part f 16)
+pub endings-shown : (f : List ℕ) → endingsBy f (counted (reading f)) ≡ endingsIn f
+endings-shown = shown-held endingsBy endingStates (λ f. refl) (λ f. empty-part f 16)
 
 -- a part and the rest of the file behind it, the last part, and all three
 part-then : (f xs : List ℕ) (at len : ℕ) → at + len ≤ length f → xs ≡ drop (at + len) f → partOf f at len ++ xs ≡ drop at f

@@ -10,14 +10,14 @@ use Rattle.template.specs.declared.Shape.{Shape}
 use Rattle.view.specs.declared.View.{View}
 
 -- the parts of a file that its numbers say: the template rules first, the schema rules behind them, the ending states behind both
-abbrev pub templatesOf : List ℕ → Shape → List ℕ
-templatesOf f s = partOf f firstBody (4 * s .templates)
+abbrev pub templatesBy : List ℕ → Shape → List ℕ
+templatesBy f s = partOf f firstBody (4 * s .templates)
 
-abbrev pub schemaOf : List ℕ → Shape → List ℕ
-schemaOf f s = partOf f (firstBody + 4 * s .templates) (4 * s .schema)
+abbrev pub schemaBy : List ℕ → Shape → List ℕ
+schemaBy f s = partOf f (firstBody + 4 * s .templates) (4 * s .schema)
 
-abbrev pub endingsOf : List ℕ → Shape → List ℕ
-endingsOf f s = partOf f (firstBody + 4 * s .templates + 4 * s .schema) (s .endings)
+abbrev pub endingsBy : List ℕ → Shape → List ℕ
+endingsBy f s = partOf f (firstBody + 4 * s .templates + 4 * s .schema) (s .endings)
 
 -- the parts that a view shows, by its own counts
 abbrev pub templatesShown : View → List ℕ

@@ -3,7 +3,7 @@
 ghost use mathlib.Core.Path.{_≡_};
 ghost use Rattle.template.specs.Order.{reading};
 ghost use Rattle.view.specs.Views.{viewOf, counted, templatesShown, schemaShown, endingsShown};
-ghost use Rattle.view.specs.Views.{templatesOf, schemaOf, endingsOf, templatesIn, schemaIn, endingsIn};
+ghost use Rattle.view.specs.Views.{templatesBy, schemaBy, endingsBy, templatesIn, schemaIn, endingsIn};
 
 // The file, and how many template rules, schema rules and ending states it has.
 pub struct View<'a> {
@@ -73,19 +73,19 @@ pub fn endings<'a>(v: View<'a>) -> &'a [u8]
 
 // The lists of a file with these numbers, by its view.
 pub fn templates_of(file: &[u8], shape: template::Shape) -> &[u8]
-    ensures { λ r. ⌜ now r ≡ templatesOf (now (file .entry)) shape ⌝ }
+    ensures { λ r. ⌜ now r ≡ templatesBy (now (file .entry)) shape ⌝ }
 {
     templates(made(file, shape))
 }
 
 pub fn schema_of(file: &[u8], shape: template::Shape) -> &[u8]
-    ensures { λ r. ⌜ now r ≡ schemaOf (now (file .entry)) shape ⌝ }
+    ensures { λ r. ⌜ now r ≡ schemaBy (now (file .entry)) shape ⌝ }
 {
     schema(made(file, shape))
 }
 
 pub fn endings_of(file: &[u8], shape: template::Shape) -> &[u8]
-    ensures { λ r. ⌜ now r ≡ endingsOf (now (file .entry)) shape ⌝ }
+    ensures { λ r. ⌜ now r ≡ endingsBy (now (file .entry)) shape ⌝ }
 {
     endings(made(file, shape))
 }

@@ -2,18 +2,9 @@
 use crate::files::{k, open_schema, symbol, Set};
 use crate::table::{section, Growth};
 use crate::timing::{best, job};
-use plain::file::{Long, LONG_RULE};
+use plain::file::{rule, Long, LongRule};
 use plain::LONGEST;
 use std::hint::black_box;
-
-type LongRule = [u8; LONG_RULE];
-
-fn rule(left: u8, symbols: &[u8]) -> LongRule {
-    let mut rule = [255; LONG_RULE];
-    (rule[0], rule[1]) = (left, symbols.len() as u8);
-    rule[2..2 + symbols.len()].copy_from_slice(symbols);
-    rule
-}
 
 /// The set's numbers and schema with these rules, laid out as a file of long rules.
 fn long(set: &Set, rules: impl Iterator<Item = LongRule>) -> Vec<u8> {

@@ -5,6 +5,17 @@
 pub const RULE: usize = 4;
 pub const LONG_RULE: usize = 14;
 
+/// A template rule of a file of long rules.
+pub type LongRule = [u8; LONG_RULE];
+
+/// A template rule in W bytes; `symbols` are at most W - 2.
+pub fn rule<const W: usize>(left: u8, symbols: &[u8]) -> [u8; W] {
+    let mut rule = [255; W];
+    (rule[0], rule[1]) = (left, symbols.len() as u8);
+    rule[2..2 + symbols.len()].copy_from_slice(symbols);
+    rule
+}
+
 /// A sound file: its three numbers and its lists, each a stretch of the lent bytes. A template rule has W bytes.
 #[derive(Clone, Copy, Debug)]
 pub struct Wide<'a, const W: usize> {

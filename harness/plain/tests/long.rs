@@ -1,7 +1,7 @@
 //! Rules longer than two symbols (section 13 of the rules): its example, the orders that are easily mistaken, both sides of each limit,
 //! and the strings of both grammars.
 
-use plain::file::{read, read_long, Long, LONG_RULE};
+use plain::file::{read, read_long, rule, Long, LongRule};
 use plain::oracle::short::short;
 use plain::oracle::trees::Cap;
 use plain::{check, split, LONGEST, LONGEST_LONG, TABLE};
@@ -10,15 +10,6 @@ const K: [u8; 45] = [
     2, 3, 2, 0, 16, 0, 3, 0, 28, 0, 4, 0, 44, 0, 1, 0, 0, 2, 65, 32, 1, 2, 0, 66, 2, 2, 1, 33, 0,
     0, 0, 1, 0, 0, 1, 0, 0, 1, 1, 1, 1, 0, 1, 1, 1,
 ];
-
-type LongRule = [u8; LONG_RULE];
-
-fn rule(left: u8, symbols: &[u8]) -> LongRule {
-    let mut rule = [255; LONG_RULE];
-    (rule[0], rule[1]) = (left, symbols.len() as u8);
-    rule[2..2 + symbols.len()].copy_from_slice(symbols);
-    rule
-}
 
 /// Two names, one state, no schema rule, and the rules as they stand.
 fn bare(nonterminals: u8, rules: &[LongRule]) -> Vec<u8> {

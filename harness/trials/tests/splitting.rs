@@ -1,12 +1,12 @@
 //! Files of long rules split: named cases on the library itself, small ranges from end to end, and the strings of both grammars.
 
-use plain::file::{read, read_long};
+use plain::file::{read, read_long, rule};
 use plain::oracle::short::short;
 use plain::oracle::trees::Cap;
 use plain::{LONGEST, LONGEST_LONG};
 use seeds::Rng;
 use std::collections::BTreeSet;
-use trials::gen::draft::{end, lay, nonterminal, rule, start, LongDraft};
+use trials::gen::draft::{end, lay, nonterminal, start, LongDraft};
 use trials::gen::{damage, long, named, sets};
 use trials::library::split;
 use trials::same::{same_check, same_split};

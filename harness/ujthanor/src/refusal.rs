@@ -14,6 +14,14 @@ pub enum Call {
     Split,
 }
 
+impl Call {
+    /// Every call.
+    pub const ALL: [Call; 6] = {
+        use Call::*;
+        [Check, Page, Fragment, Join, NetDepth, Split]
+    };
+}
+
 /// What the number beside an answer means. The same answer may have a place from one call and nothing from another.
 #[derive(Clone, Copy, Debug, PartialEq, Eq, Hash)]
 pub enum Number {

@@ -224,14 +224,7 @@ fn splits() {
 /// For every call and answer, and for numbers that are none: two sentences, and a number only where one is meant.
 #[test]
 fn every_message_is_two_sentences() {
-    for call in [
-        Call::Check,
-        Call::Page,
-        Call::Fragment,
-        Call::Join,
-        Call::NetDepth,
-        Call::Split,
-    ] {
+    for call in Call::ALL {
         for answer in 1..=18 {
             let refusal = Refusal::of(call, answer, 987_654);
             let words = refusal.to_string();

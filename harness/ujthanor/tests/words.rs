@@ -131,14 +131,7 @@ fn a_refusal_knows_what_its_number_is() {
         assert_eq!(number(Call::Check, *answer), Number::Round(5));
     }
     assert_eq!(number(Call::Check, Answer::BudgetUsed), Number::Budget(5));
-    for call in [
-        Call::Check,
-        Call::Page,
-        Call::Fragment,
-        Call::Join,
-        Call::NetDepth,
-        Call::Split,
-    ] {
+    for call in Call::ALL {
         assert_eq!(number(call, Answer::BadFile), Number::Place(5));
     }
     for answer in [Answer::NotATag, Answer::Mismatch, Answer::TooDeep] {

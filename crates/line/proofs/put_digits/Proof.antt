@@ -3,14 +3,14 @@ use mathlib.Core.Path.{_≡_}
 use Prim.Native.Nat.{_-_, _≤_}
 use lib.ListN.{length}
 use Rattle.line.specs.Decimal.{digits}
-use Rattle.line.specs.Lines.{over}
+use Rattle.line.specs.Lines.{overFrom}
 use Rattle.line.proofs.LineLaws.{spells}
 use Rattle.line.proofs.put_digits.Statement.{statement}
 use Rattle.line.proofs.put_digits.Tie as tie
 
 abbrev Inv-loop : tie.InvT-loop
 Inv-loop out₀ at k n i₀ rest₀ out i rest =
-    (i ≤ length out₀) × (length out ≡ length out₀) × (over at (digits (i - at) rest) out ≡ over at (digits k n) out₀)
+    (i ≤ length out₀) × (length out ≡ length out₀) × (overFrom at (digits (i - at) rest) out ≡ overFrom at (digits k n) out₀)
 
 abbrev μ-loop : tie.MeasureT-loop
 μ-loop out₀ at k n i₀ rest₀ out i rest = i

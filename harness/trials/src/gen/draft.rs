@@ -18,14 +18,6 @@ pub struct WideDraft<const W: usize> {
 pub type Draft = WideDraft<RULE>;
 pub type LongDraft = WideDraft<LONG_RULE>;
 
-/// A template rule; `symbols` are at most W - 2.
-pub fn rule<const W: usize>(left: u8, symbols: &[u8]) -> [u8; W] {
-    let mut rule = [255; W];
-    (rule[0], rule[1]) = (left, symbols.len() as u8);
-    rule[2..2 + symbols.len()].copy_from_slice(symbols);
-    rule
-}
-
 /// The symbol of a nonterminal.
 pub fn nonterminal(n: u8) -> u8 {
     64 + n

@@ -1,7 +1,8 @@
 //! Sound files that reach the limits: depth, images, rounds, counts.
 
-use super::draft::{nonterminal, rule, Draft};
+use super::draft::{nonterminal, Draft};
 use super::{named, numbers, schemas, typed};
+use plain::file::rule;
 use seeds::Rng;
 
 /// Elements in elements without end, under few nonterminals: their pages nest past 16.

@@ -1,13 +1,11 @@
 //! Sound files of long rules, of all sizes.
 
-use super::draft::{rule, Draft, LongDraft};
+use super::draft::{Draft, LongDraft};
 use super::{numbers, schemas, sets};
-use plain::file::LONG_RULE;
+use plain::file::{rule, LongRule, LONG_RULE};
 use plain::{NONTERMINALS, RULES};
 use seeds::Rng;
 use std::collections::BTreeSet;
-
-type LongRule = [u8; LONG_RULE];
 
 /// The most symbols of a long rule.
 const SYMBOLS: usize = LONG_RULE - 2;

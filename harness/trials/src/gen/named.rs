@@ -1,6 +1,7 @@
 //! The files that the rules name (section 11), and families around them that reach the limits.
 
-use super::draft::{end, nonterminal, rule, start, Draft};
+use super::draft::{end, nonterminal, start, Draft};
+use plain::file::rule;
 
 /// File K.
 pub fn k() -> Draft {

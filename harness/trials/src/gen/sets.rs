@@ -1,7 +1,8 @@
 //! Sound template files of many shapes.
 
-use super::draft::{nonterminal, rule, Draft};
+use super::draft::{nonterminal, Draft};
 use super::{limits, named, numbers, schemas, typed};
+use plain::file::rule;
 use seeds::Rng;
 
 /// A sound file of any shape.

@@ -1,8 +1,9 @@
 //! Grammars in which every nonterminal has one reduced form of its own: without a schema in the way
 //! they pass, and one changed symbol breaks them.
 
-use super::draft::{rule, Draft};
+use super::draft::Draft;
 use super::numbers;
+use plain::file::rule;
 use seeds::Rng;
 use std::collections::HashMap;
 

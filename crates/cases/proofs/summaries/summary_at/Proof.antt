@@ -4,8 +4,8 @@ use Prim.Native.Nat.{_≤_, _-_}
 use lib.ListN.{length}
 use borrow.Author.Needs.{needs}
 use Rattle.pieces.specs.Pieces.{mostTags, piecesLong}
-use Rattle.cases.proofs.summary_at.Statement.{statement}
-use Rattle.cases.proofs.summary_at.Tie as tie
+use Rattle.cases.proofs.summaries.summary_at.Statement.{statement}
+use Rattle.cases.proofs.summaries.summary_at.Tie as tie
 
 abbrev Inv-loop : tie.InvT-loop
 Inv-loop bytes at names₀ relations₀ k₀ names relations k = (k ≤ mostTags) × (length names ≡ mostTags) × (length relations ≡ piecesLong)

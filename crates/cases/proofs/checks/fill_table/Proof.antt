@@ -3,8 +3,8 @@ use mathlib.Core.Path.{_≡_}
 use Prim.Native.Nat.{_≤_, _-_}
 use lib.ListN.{length}
 use borrow.Author.Needs.{needs}
-use Rattle.cases.proofs.fill_table.Statement.{statement}
-use Rattle.cases.proofs.fill_table.Tie as tie
+use Rattle.cases.proofs.checks.fill_table.Statement.{statement}
+use Rattle.cases.proofs.checks.fill_table.Tie as tie
 
 abbrev Inv-loop : tie.InvT-loop
 Inv-loop table₀ fill k₀ table k = (k ≤ length table₀) × (length table ≡ length table₀)

@@ -2,8 +2,8 @@
 use Prim.Native.Nat.{_≤_, _-_}
 use borrow.Author.Needs.{needs}
 use Rattle.pieces.specs.Pieces.{mostTags}
-use Rattle.cases.proofs.show_summary.Statement.{statement}
-use Rattle.cases.proofs.show_summary.Tie as tie
+use Rattle.cases.proofs.summaries.show_summary.Statement.{statement}
+use Rattle.cases.proofs.summaries.show_summary.Tie as tie
 
 abbrev Inv-loop : tie.InvT-loop
 Inv-loop names relations k₀ k = k ≤ mostTags

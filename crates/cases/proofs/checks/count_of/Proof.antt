@@ -1,8 +1,8 @@
 -- The loop passes each entry once, and counts at most as many as it passed; it makes no claim about the number. Assumes nothing.
 use Prim.Native.Nat.{_≤_, _-_}
 use borrow.Author.Needs.{needs}
-use Rattle.cases.proofs.count_of.Statement.{statement}
-use Rattle.cases.proofs.count_of.Tie as tie
+use Rattle.cases.proofs.checks.count_of.Statement.{statement}
+use Rattle.cases.proofs.checks.count_of.Tie as tie
 
 abbrev Inv-loop : tie.InvT-loop
 Inv-loop table from to x n₀ k₀ n k = n ≤ 10000

@@ -1,8 +1,8 @@
 -- The loop passes each byte once; it makes no claim about what is printed. Assumes nothing.
 use Prim.Native.Nat.{_≤_, _-_}
 use borrow.Author.Needs.{needs}
-use Rattle.cases.proofs.show_bytes.Statement.{statement}
-use Rattle.cases.proofs.show_bytes.Tie as tie
+use Rattle.cases.proofs.splits.show_bytes.Statement.{statement}
+use Rattle.cases.proofs.splits.show_bytes.Tie as tie
 
 abbrev Inv-loop : tie.InvT-loop
 Inv-loop bytes to k₀ k = k ≤ to

@@ -8,8 +8,8 @@ use mathlib.Core.Path.{sym}
 use lib.Seq.{length-take-le}
 use native.Mathlib.Omega.{arith}
 use borrow.Author.Needs.{needs}
-use Rattle.cases.proofs.split_into.Statement.{statement}
-use Rattle.cases.proofs.split_into.Tie as tie
+use Rattle.cases.proofs.splits.split_into.Statement.{statement}
+use Rattle.cases.proofs.splits.split_into.Tie as tie
 
 fill-bytes-requires : tie.Need-fill-bytes-requires
 fill-bytes-requires c κs = search needs

@@ -1,8 +1,8 @@
 -- The loop counts k down from 8; it makes no claim about the number. Assumes nothing.
 use Prim.Native.Nat.{_≤_}
 use borrow.Author.Needs.{needs}
-use Rattle.cases.proofs.relation_at.Statement.{statement}
-use Rattle.cases.proofs.relation_at.Tie as tie
+use Rattle.cases.proofs.summaries.relation_at.Statement.{statement}
+use Rattle.cases.proofs.summaries.relation_at.Tie as tie
 
 abbrev Inv-loop : tie.InvT-loop
 Inv-loop bytes at r₀ k₀ r k = k ≤ 8

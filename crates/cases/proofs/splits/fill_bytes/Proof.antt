@@ -3,8 +3,8 @@ use mathlib.Core.Path.{_≡_}
 use Prim.Native.Nat.{_≤_, _-_}
 use lib.ListN.{length}
 use borrow.Author.Needs.{needs}
-use Rattle.cases.proofs.fill_bytes.Statement.{statement}
-use Rattle.cases.proofs.fill_bytes.Tie as tie
+use Rattle.cases.proofs.splits.fill_bytes.Statement.{statement}
+use Rattle.cases.proofs.splits.fill_bytes.Tie as tie
 
 abbrev Inv-loop : tie.InvT-loop
 Inv-loop out₀ fill k₀ out k = (k ≤ length out₀) × (length out ≡ length out₀)

@@ -2,8 +2,8 @@
 use Prim.Native.Nat.{_≤_, _-_}
 use borrow.Author.Needs.{needs}
 use Rattle.pieces.specs.Pieces.{mostTags}
-use Rattle.cases.proofs.show_relations.Statement.{statement}
-use Rattle.cases.proofs.show_relations.Tie as tie
+use Rattle.cases.proofs.summaries.show_relations.Statement.{statement}
+use Rattle.cases.proofs.summaries.show_relations.Tie as tie
 
 abbrev Inv-loop : tie.InvT-loop
 Inv-loop relations k₀ k = k ≤ mostTags

@@ -1,8 +1,8 @@
 -- The loop passes each entry once; it makes no claim about what is printed. Assumes nothing.
 use Prim.Native.Nat.{_≤_, _-_}
 use borrow.Author.Needs.{needs}
-use Rattle.cases.proofs.show_entries.Statement.{statement}
-use Rattle.cases.proofs.show_entries.Tie as tie
+use Rattle.cases.proofs.checks.show_entries.Statement.{statement}
+use Rattle.cases.proofs.checks.show_entries.Tie as tie
 
 abbrev Inv-loop : tie.InvT-loop
 Inv-loop table to k₀ k = k ≤ to

@@ -4,8 +4,8 @@ use mathlib.Core.Path.{sym}
 use lib.Seq.{length-take-le}
 use native.Mathlib.Omega.{arith}
 use borrow.Author.Needs.{needs}
-use Rattle.cases.proofs.check_table.Statement.{statement}
-use Rattle.cases.proofs.check_table.Tie as tie
+use Rattle.cases.proofs.checks.check_table.Statement.{statement}
+use Rattle.cases.proofs.checks.check_table.Tie as tie
 
 fill-table-requires : tie.Need-fill-table-requires
 fill-table-requires c κs = search needs
