@@ -7,7 +7,7 @@ use mathlib.Core.List.{List, [], _∷_, _++_, map}
 use Prim.Native.Nat.{ℕ, zero, suc, _+_, _-_, _*_, _/_, _≤_, _<_, min}
 use lib.Dec.{ltb}
 use lib.ListN.{length, getD, take, drop}
-use Rattle.template.specs.Layout.{mostSymbols, ruleWidth}
+use Rattle.entries.specs.Entries.{mostSymbols, ruleWidth}
 use Rattle.template.specs.Grammar.{Symbol, symbolOf}
 
 -- how many symbols a long rule may have
