@@ -10,15 +10,15 @@ use Rattle.entries.specs.declared.Fault.the-variants.{Nowhere, At}
 
 -- an earlier fault stays
 
-pub then-assoc : (f g h : Fault) → orThen (orThen f g) h ≡ orThen f (orThen g h)
+then-assoc : (f g h : Fault) → orThen (orThen f g) h ≡ orThen f (orThen g h)
 then-assoc Nowhere g h = refl
 then-assoc (At p) g h = refl
 
-pub then-nowhere : (f : Fault) → orThen f Nowhere ≡ f
+then-nowhere : (f : Fault) → orThen f Nowhere ≡ f
 then-nowhere Nowhere = refl
 then-nowhere (At p) = refl
 
-pub then-unless : (b : Bool) (p : ℕ) (f g : Fault) → orThen (unless b (At p) f) g ≡ unless b (At p) (orThen f g)
+then-unless : (b : Bool) (p : ℕ) (f g : Fault) → orThen (unless b (At p) f) g ≡ unless b (At p) (orThen f g)
 then-unless true p f g = refl
 then-unless false p f g = refl
 

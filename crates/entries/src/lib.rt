@@ -43,14 +43,24 @@ pub fn then_test(fault: Fault, holds: bool, place: usize) -> Fault
     }
 }
 
-// Is the byte a tag or a nonterminal of a file with that many names and nonterminals?
+// Is the byte a tag or a nonterminal of a file with that many names and nonterminals? The ranges are asked from the lowest on.
 fn is_symbol(names: u8, nonterminals: u8, byte: u8) -> bool
     ensures { λ r. ⌜ r ≡ isSymbol names nonterminals byte ⌝ }
 {
+    if byte < names {
+        return true;
+    }
     let b = numbers::wide(byte);
-    (byte < names)
-        | ((32 <= b) & (b < 32 + numbers::wide(names)))
-        | ((64 <= b) & (b < 64 + numbers::wide(nonterminals)))
+    if b < 32 {
+        return false;
+    }
+    if b < 32 + numbers::wide(names) {
+        return true;
+    }
+    if b < 64 {
+        return false;
+    }
+    b < 64 + numbers::wide(nonterminals)
 }
 
 // A used place holds a symbol, an unused one 255.
@@ -64,32 +74,37 @@ fn symbol_holds(used: bool, names: u8, nonterminals: u8, byte: u8) -> bool
     }
 }
 
-// A template rule's symbols, left to right: an earlier fault stays.
-fn symbols_fault(fault: Fault, file: &[u8], s: Sizes, symbols: u8, at: usize) -> Fault
+// A template rule's symbols, left to right.
+fn symbols_fault(file: &[u8], s: Sizes, symbols: u8, at: usize) -> Fault
     requires { ⌜ at + ruleWidth symbols ≤ length (now file) ⌝ }
-    ensures { λ r. ⌜ r ≡ orThen fault (firstFault (symbolTests (s .names) (s .nonterminals) (now (file .entry)) at 0 symbols)) ⌝ }
+    ensures { λ r. ⌜ r ≡ firstFault (symbolTests (s .names) (s .nonterminals) (now (file .entry)) at 0 symbols) ⌝ }
 {
     let used = numbers::wide(file[at + 1]);
     let count = numbers::wide(symbols);
-    let mut f = fault;
     let mut j = 0;
     while j < count {
         let place = at + 2 + j;
         let holds = symbol_holds(j < used, s.names, s.nonterminals, file[place]);
-        f = then_test(f, holds, place);
+        if !holds {
+            return Fault::At(place);
+        }
         j += 1;
     }
-    f
+    Fault::Nowhere
 }
 
-// A template rule's fields, left to right.
+// A template rule's fields, left to right. Here and in a schema rule a fault leaves at once, so that a sound entry costs a comparison a field.
 fn rule_fault(file: &[u8], s: Sizes, symbols: u8, at: usize) -> Fault
     requires { ⌜ at + ruleWidth symbols ≤ length (now file) ⌝ }
     ensures { λ r. ⌜ r ≡ firstFault (fieldTests (Body.Templates symbols) (s .names) (s .nonterminals) (s .states) (now (file .entry)) at) ⌝ }
 {
-    let f = then_test(Fault::Nowhere, file[at] < s.nonterminals, at);
-    let f = then_test(f, file[at + 1] <= symbols, at + 1);
-    symbols_fault(f, file, s, symbols, at)
+    if s.nonterminals <= file[at] {
+        return Fault::At(at);
+    }
+    if symbols < file[at + 1] {
+        return Fault::At(at + 1);
+    }
+    symbols_fault(file, s, symbols, at)
 }
 
 // A schema rule's fields, left to right.
@@ -97,10 +112,19 @@ fn schema_fault(file: &[u8], s: Sizes, at: usize) -> Fault
     requires { ⌜ at + 4 ≤ length (now file) ⌝ }
     ensures { λ r. ⌜ r ≡ firstFault (fieldTests Body.Schema (s .names) (s .nonterminals) (s .states) (now (file .entry)) at) ⌝ }
 {
-    let f = then_test(Fault::Nowhere, file[at] < s.states, at);
-    let f = then_test(f, file[at + 1] < s.names, at + 1);
-    let f = then_test(f, file[at + 2] < s.states, at + 2);
-    then_test(f, file[at + 3] < s.states, at + 3)
+    if s.states <= file[at] {
+        return Fault::At(at);
+    }
+    if s.names <= file[at + 1] {
+        return Fault::At(at + 1);
+    }
+    if s.states <= file[at + 2] {
+        return Fault::At(at + 2);
+    }
+    if s.states <= file[at + 3] {
+        return Fault::At(at + 3);
+    }
+    Fault::Nowhere
 }
 
 // How many bytes an entry has.
@@ -165,7 +189,10 @@ fn entry_fault(file: &[u8], s: Sizes, body: Body, first: usize, at: usize) -> Fa
     ensures { λ r. ⌜ r ≡ firstFault (entryTests body (s .names) (s .nonterminals) (s .states) (now (file .entry)) first at) ⌝ }
 {
     let f = field_fault(file, s, body, at);
-    then_test(f, ascends(file, width(body), first, at), at)
+    if let Fault::At(p) = f {
+        return Fault::At(p);
+    }
+    then_test(Fault::Nowhere, ascends(file, width(body), first, at), at)
 }
 
 // The entries of a body in turn: the first fault decides.
