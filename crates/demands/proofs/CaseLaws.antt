@@ -17,9 +17,10 @@ use Rattle.numbers.specs.Bits.{any, number as digits}
 use Rattle.hedge.specs.Operations.{same, linked, ended, onePair, fires, wrapped, lowest, relation}
 use Rattle.hedge.specs.Operations.{unit, compose, wrap, accepts}
 use Rattle.pieces.specs.Pieces.{pieceAt, putPiece}
+use Rattle.entries.specs.Tests.{firstFault}
+use Rattle.entries.specs.Entries.{symbolTests, fieldTests, width, precedes, ascends, entryTests, bodyTests}
 use Rattle.template.specs.Layout.{halfAt, partOf}
-use Rattle.template.specs.Order.{IsSound, firstFault, headTests, contentsTests, symbolTests, fieldTests, width, precedes, ascends}
-use Rattle.template.specs.Order.{entryTests, bodyTests, bodies, tests}
+use Rattle.template.specs.Order.{IsSound, headTests, contentsTests, bodies, tests}
 use Rattle.form.specs.Held.{tagAt, stackOf}
 use Rattle.form.specs.Held.{tagCount, formOf}
 use Rattle.summary.specs.Fragments.{FragmentSays}

@@ -7,7 +7,7 @@ use mathlib.Core.Logic.{_↔_, ⊎-elim}
 use Prim.Native.Nat.{ℕ, _≤_}
 use native.Mathlib.Omega.{arith}
 use lib.IntN.{pos}
-use Rattle.template.specs.Layout.{ruleSymbols}
+use Rattle.entries.specs.Entries.{ruleSymbols}
 use Rattle.template.specs.Order.{reading}
 use Rattle.template.specs.declared.Reading.the-variants.{Bad}
 use Rattle.form.specs.declared.Summary.{Summary}

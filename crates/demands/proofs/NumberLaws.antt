@@ -6,7 +6,7 @@ use mathlib.Core.Logic.{_↔_}
 use Prim.Native.Nat.{ℕ, zero, suc, _<_}
 use native.Mathlib.Omega.{arith}
 use lib.ListN.{length, getD}
-use Rattle.template.specs.Layout.{ruleSymbols}
+use Rattle.entries.specs.Entries.{ruleSymbols}
 use Rattle.template.specs.Order.{SoundOf, readingOf, reading, answer, number}
 use Rattle.template.specs.declared.Reading.{Reading}
 use Rattle.template.specs.declared.Reading.the-variants.{Sound, Bad}

@@ -10,9 +10,10 @@ use lib.ListN.{length, drop}
 use borrow.Author.Tests.{ltb-true, leb-true}
 use Rattle.numbers.proofs.TestLaws.{and-out}
 use Rattle.rows.specs.Tables.{order, flat, before, putIn, sortInto, sorted}
+use Rattle.entries.specs.Tests.{firstFault}
+use Rattle.entries.specs.Entries.{symbolTests, fieldTests, width, precedes, ascends, entryTests, bodyTests}
 use Rattle.template.specs.Layout.{mostNonterminals, mostRules, nonterminals, halfAt, partOf}
-use Rattle.template.specs.Order.{SoundOf, firstFault, headTests, contentsTests, symbolTests, fieldTests, width, precedes, ascends}
-use Rattle.template.specs.Order.{entryTests, bodyTests, bodies, tests}
+use Rattle.template.specs.Order.{SoundOf, headTests, contentsTests, bodies, tests}
 use Rattle.save.specs.Files.{Bytes, headOf, fileOf}
 use Rattle.long.specs.Rules.{longSymbols, longField, longCount, extras, PartsFit, restOf, part, partsOf, allParts}
 use Rattle.long.specs.Splits.{longRules, allExtras, Shortens, SplitSays}

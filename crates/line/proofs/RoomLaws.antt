@@ -13,12 +13,14 @@ use lib.Seq.{getD-take, length-take-le, take-all}
 use borrow.Author.Tests.{leb-true, le-leb, ne-eqb}
 use Rattle.numbers.proofs.TestLaws.{and-out}
 use Rattle.hedge.specs.Schema.{mostStates}
-use Rattle.template.specs.Layout.{mostRules, mostSchemaRules, longestFile, byteAt, halfAt, states, ruleCount, schemaCount, endingCount}
-use Rattle.template.specs.Layout.{ruleSymbols, schemaStart, endingStart, bodiesEnd}
-use Rattle.template.specs.Order.{Test, test, firstFault, orThen, headTests, contentsTests, bodies, tests, IsSound, shapeOf, readingOf, reading}
-use Rattle.template.specs.declared.Fault.{Fault}
-use Rattle.template.specs.declared.Fault.the-variants.{Nowhere, At}
-use Rattle.template.proofs.OrderLaws.{first-append, nowhere-holds}
+use Rattle.entries.specs.Tests.{Test, test, firstFault, orThen}
+use Rattle.entries.specs.Entries.{byteAt, ruleSymbols}
+use Rattle.entries.specs.declared.Fault.{Fault}
+use Rattle.entries.specs.declared.Fault.the-variants.{Nowhere, At}
+use Rattle.template.specs.Layout.{mostRules, mostSchemaRules, longestFile, halfAt, states, ruleCount, schemaCount, endingCount, schemaStart}
+use Rattle.template.specs.Layout.{endingStart, bodiesEnd}
+use Rattle.template.specs.Order.{headTests, contentsTests, bodies, tests, IsSound, shapeOf, readingOf, reading}
+use Rattle.entries.proofs.OrderLaws.{first-append, nowhere-holds}
 use Rattle.template.proofs.SoundLaws.{sound-file, sound-length}
 use Rattle.rounds.specs.declared.CheckReply.{CheckReply}
 use Rattle.rounds.specs.declared.CheckReply.the-variants as check

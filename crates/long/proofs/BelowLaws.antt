@@ -10,8 +10,9 @@ use native.Mathlib.Omega.{arith}
 use lib.Dec.{ltb, leb}
 use borrow.Author.Tests.{ltb-true, lt-ltb}
 use Rattle.numbers.proofs.TestLaws.{and-out, or-out}
-use Rattle.template.specs.Layout.{byteAt, nameCount, nonterminals, ruleCount, ruleWidth, templateRulesOf}
-use Rattle.template.specs.Order.{isSymbol, symbolHolds, SoundOf}
+use Rattle.entries.specs.Entries.{byteAt, ruleWidth, isSymbol, symbolHolds}
+use Rattle.template.specs.Layout.{nameCount, nonterminals, ruleCount, templateRulesOf}
+use Rattle.template.specs.Order.{SoundOf}
 use Rattle.template.proofs.SoundLaws.{SoundFileOf, sound-file-of}
 use Rattle.template.proofs.ListLaws.{rules-length, rules-byte}
 use Rattle.template.proofs.GrammarLaws.{rule-bytes}

@@ -10,10 +10,12 @@ use native.Mathlib.Omega.{arith}
 use lib.ListN.{length, getD, drop, length-drop}
 use lib.Seq.{length-take-le, getD-take, getD-drop, ext-getD}
 use borrow.Author.Tests.{eqb-true, lt-ltb, le-ltb}
-use Rattle.template.specs.Layout.{nonterminals, ruleCount, ruleWidth, templateRulesOf}
+use Rattle.entries.specs.Entries.{ruleWidth}
+use Rattle.template.specs.Layout.{nonterminals, ruleCount, templateRulesOf}
 use Rattle.template.proofs.SoundLaws.{SoundFileOf}
-use Rattle.template.proofs.ListLaws.{entry, rules-length}
-use Rattle.template.proofs.EntryLaws.{rules-ascending}
+use Rattle.entries.proofs.EntryLaws.{entry}
+use Rattle.template.proofs.ListLaws.{rules-length}
+use Rattle.template.proofs.AscendingLaws.{rules-ascending}
 use Rattle.trees.specs.Events.{Distinct, distinct-none}
 use Rattle.save.proofs.AscendLaws.{ascending-once}
 use Rattle.long.specs.Rules.{longSymbols, longField, restOf, part, parts, allParts}

@@ -9,8 +9,9 @@ use lib.ListN.{length}
 use Rattle.template.specs.Layout.{nonterminals, ruleCount, templateRulesOf, templateRules}
 use Rattle.template.specs.Order.{SoundOf, IsSound}
 use Rattle.template.proofs.SoundLaws.{SoundFile, sound-file, sound-file-of}
-use Rattle.template.proofs.ListLaws.{entry, rules-length}
-use Rattle.template.proofs.EntryLaws.{rules-ascending}
+use Rattle.entries.proofs.EntryLaws.{entry}
+use Rattle.template.proofs.ListLaws.{rules-length}
+use Rattle.template.proofs.AscendingLaws.{rules-ascending}
 use Rattle.trees.specs.Events.{Distinct}
 use Rattle.trees.proofs.DistinctLaws.{distinct-length}
 use Rattle.save.specs.Entries.{Entry}

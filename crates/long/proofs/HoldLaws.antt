@@ -12,10 +12,11 @@ use lib.Dec.{ltb, leb}
 use lib.ListN.{getD}
 use borrow.Author.Tests.{ltb-true, eqb-true, lt-ltb, le-ltb, le-leb}
 use Rattle.numbers.proofs.TestLaws.{ext-true, and-out, or-out}
-use Rattle.template.specs.Layout.{nameCount, nonterminals, ruleCount, ruleSymbols, templateRulesOf}
-use Rattle.template.specs.Order.{firstFault, isSymbol, symbolHolds, symbolTests, fieldTests}
-use Rattle.template.specs.declared.Fault.the-variants.{Nowhere}
-use Rattle.template.specs.declared.Body.the-variants.{Templates}
+use Rattle.entries.specs.Tests.{firstFault}
+use Rattle.entries.specs.Entries.{ruleSymbols, isSymbol, symbolHolds, symbolTests, fieldTests}
+use Rattle.entries.specs.declared.Fault.the-variants.{Nowhere}
+use Rattle.entries.specs.declared.Body.the-variants.{Templates}
+use Rattle.template.specs.Layout.{nameCount, nonterminals, ruleCount, templateRulesOf}
 use Rattle.template.proofs.SoundLaws.{SoundFileOf}
 use Rattle.long.specs.Rules.{longSymbols, longField, longCount, extra, extras, restOf, part, parts}
 use Rattle.long.proofs.NumberLaws.{rest-below, left-below}

@@ -10,7 +10,7 @@ use native.Mathlib.Omega.{arith}
 use lib.ListN.{length, getD, take, drop}
 use lib.Seq.{drop-cons}
 use borrow.Author.Tests.{lt-ltb, le-ltb}
-use Rattle.template.specs.Layout.{ruleWidth}
+use Rattle.entries.specs.Entries.{ruleWidth}
 use Rattle.template.specs.Grammar.{Symbol, nonterminal, symbolOf}
 use Rattle.long.specs.Rules.{longSymbols, longField, longCount, extra, restOf, part, parts, LongRulesBelow}
 use Rattle.long.proofs.SplitLaws.{expand}

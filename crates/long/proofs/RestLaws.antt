@@ -10,7 +10,7 @@ use native.Mathlib.Omega.{arith}
 use lib.Dec.{ltb}
 use lib.ListN.{take, drop}
 use borrow.Author.Tests.{lt-ltb, le-ltb}
-use Rattle.template.specs.Layout.{ruleWidth}
+use Rattle.entries.specs.Entries.{ruleWidth}
 use Rattle.template.specs.Grammar.{Symbol, nonterminal, symbolOf}
 use Rattle.long.specs.Rules.{longSymbols, longField, longCount, longSide, extra, extras, restOf}
 use Rattle.long.proofs.NumberLaws.{extras-before}

@@ -13,10 +13,11 @@ use Rattle.rows.specs.Tables.{Ascending, flat, sorted}
 use Rattle.rows.proofs.TableLaws.{Wide}
 use Rattle.rows.proofs.PutLaws.{sorted-length, sorted-keeps, sorted-only, sorted-wide}
 use Rattle.rows.proofs.SortLaws.{NoRepeats, sorted-ascends}
-use Rattle.template.specs.Layout.{firstBody, nameCount, nonterminals, states, schemaCount, endingCount, ruleSymbols}
-use Rattle.template.specs.Layout.{schemaStartOf, endingStartOf, partOf, schemaRulesOf, endingStatesOf}
-use Rattle.template.specs.Order.{width, fieldTests, SoundOf}
-use Rattle.template.specs.declared.Body.the-variants.{Templates, Schema, Endings}
+use Rattle.entries.specs.Entries.{ruleSymbols, width, fieldTests}
+use Rattle.entries.specs.declared.Body.the-variants.{Templates, Schema, Endings}
+use Rattle.template.specs.Layout.{firstBody, nameCount, nonterminals, states, schemaCount, endingCount, schemaStartOf, endingStartOf}
+use Rattle.template.specs.Layout.{partOf, schemaRulesOf, endingStatesOf}
+use Rattle.template.specs.Order.{SoundOf}
 use Rattle.template.proofs.SoundLaws.{SoundFileOf, sound-file-of}
 use Rattle.template.proofs.ListLaws.{part-at, schema-rules-fit, endings-fit, schema-rules-length, endings-length}
 use Rattle.template.proofs.ListLaws as lists

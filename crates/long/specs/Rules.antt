@@ -7,7 +7,8 @@ use mathlib.Core.List.{List, [], _∷_, _++_, map}
 use Prim.Native.Nat.{ℕ, zero, suc, _+_, _-_, _*_, _/_, _≤_, _<_, min}
 use lib.Dec.{ltb}
 use lib.ListN.{length, getD, take, drop}
-use Rattle.template.specs.Layout.{mostSymbols, ruleWidth, mostNonterminals, mostRules}
+use Rattle.entries.specs.Entries.{mostSymbols, ruleWidth}
+use Rattle.template.specs.Layout.{mostNonterminals, mostRules}
 use Rattle.template.specs.Grammar.{Symbol, symbolOf}
 
 -- how many symbols a long rule may have

@@ -1,4 +1,4 @@
-// A byte as a number, and the fields of rules of four bytes. The crate's theory of bits and of tests is in specs/ and proofs/.
+// A byte and a number of 16 bits at the machine's width, and the fields of rules of four bytes. The crate's theory of bits and of tests is in specs/ and proofs/.
 ghost use mathlib.Core.Path.{_≡_};
 ghost use Prim.Native.Nat.{_/_, _<_};
 ghost use lib.ListN.{length};
@@ -7,6 +7,13 @@ ghost use Rattle.numbers.specs.Fields.{field};
 // A byte as a number of the machine's width.
 pub fn wide(x: u8) -> usize
     ensures { λ r. ⌜ (r ≡ x) × (r < 256) ⌝ }
+{
+    x as usize
+}
+
+// A number of 16 bits, likewise.
+pub fn wide_half(x: u16) -> usize
+    ensures { λ r. ⌜ (r ≡ x) × (r < 65536) ⌝ }
 {
     x as usize
 }

@@ -19,9 +19,8 @@ use Rattle.rows.specs.declared.Order.the-variants.{Less}
 use Rattle.rows.proofs.OrderLaws.{order-below, order-on, less-irrefl, less-trans}
 use Rattle.rows.proofs.TableLaws.{rows-length, row-zero, row-suc, row-member, member-row, flat-rows}
 use Rattle.rows.proofs.SortLaws.{first-less, ascending-unique}
-use Rattle.template.specs.Order.{precedes}
-use Rattle.template.proofs.ListLaws.{entry}
-use Rattle.template.proofs.EntryLaws.{EntriesAscend}
+use Rattle.entries.specs.Entries.{precedes}
+use Rattle.entries.proofs.EntryLaws.{entry, EntriesAscend}
 use Rattle.save.specs.Entries.{Entry, SameEntries}
 use Rattle.save.proofs.HoldLaws.{entry-below, below-entry}
 

@@ -7,8 +7,9 @@ use Prim.Native.Nat.{ℕ, zero, suc, _+_, _*_, _/_, _%_, _≤_}
 use native.Mathlib.Omega.{arith}
 use lib.ListN.{length, take, drop, length-append, length-drop, take-append-drop}
 use lib.Seq.{take-all, take-at, drop-at, drop-cons, drop-drop}
-use Rattle.template.specs.Layout.{firstBody, byteAt, halfAt, nameCount, nonterminals, states, ruleCount, schemaCount, endingCount}
-use Rattle.template.specs.Layout.{schemaStart, endingStart, partOf, templateRules, schemaRules, endingStates}
+use Rattle.entries.specs.Entries.{byteAt}
+use Rattle.template.specs.Layout.{firstBody, halfAt, nameCount, nonterminals, states, ruleCount, schemaCount, endingCount, schemaStart}
+use Rattle.template.specs.Layout.{endingStart, partOf, templateRules, schemaRules, endingStates}
 use Rattle.template.specs.Order.{IsSound}
 use Rattle.template.proofs.SoundLaws.{SoundFile, sound-file}
 use Rattle.template.proofs.ListLaws.{part-is, rules-fit, schema-rules-fit, endings-fit, rules-count, schema-rules-count, endings-length}

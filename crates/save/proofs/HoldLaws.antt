@@ -13,17 +13,18 @@ use lib.ListN.{length, take, drop}
 use lib.Seq.{getD-take, getD-drop}
 use Rattle.words.specs.Tags.{mostNames}
 use Rattle.hedge.specs.Schema.{mostStates}
-use Rattle.template.specs.Layout.{firstBody, mostNonterminals, mostRules, mostSchemaRules, ruleSymbols, byteAt}
-use Rattle.template.specs.Layout.{nameCount, nonterminals, states, ruleCount, schemaCount, endingCount, schemaStart, endingStart}
-use Rattle.template.specs.Layout.{partOf, templateRules, schemaRules, endingStates}
-use Rattle.template.specs.Order.{firstFault, fieldTests, width, ascends, bodyTests, body, IsSound}
-use Rattle.template.specs.declared.Fault.the-variants.{Nowhere}
-use Rattle.template.specs.declared.Body.{Body}
-use Rattle.template.specs.declared.Body.the-variants.{Templates, Schema, Endings}
+use Rattle.entries.specs.Tests.{firstFault}
+use Rattle.entries.specs.Entries.{ruleSymbols, byteAt, fieldTests, width, ascends, bodyTests}
+use Rattle.entries.specs.declared.Fault.the-variants.{Nowhere}
+use Rattle.entries.specs.declared.Body.{Body}
+use Rattle.entries.specs.declared.Body.the-variants.{Templates, Schema, Endings}
+use Rattle.template.specs.Layout.{firstBody, mostNonterminals, mostRules, mostSchemaRules, nameCount, nonterminals, states, ruleCount}
+use Rattle.template.specs.Layout.{schemaCount, endingCount, schemaStart, endingStart, partOf, templateRules, schemaRules, endingStates}
+use Rattle.template.specs.Order.{body, IsSound}
 use Rattle.template.proofs.SoundLaws.{SoundFile, sound-file, file-sound}
-use Rattle.template.proofs.ListLaws.{entry, part-entry, part-length, rules-fit, schema-rules-fit}
-use Rattle.template.proofs.ListLaws.{rules-count, schema-rules-count, endings-length}
-use Rattle.template.proofs.EntryLaws.{EntriesAscend, body-fields, body-ascending}
+use Rattle.entries.proofs.EntryLaws.{entry, EntriesAscend, body-fields}
+use Rattle.template.proofs.ListLaws.{part-entry, part-length, rules-fit, schema-rules-fit, rules-count, schema-rules-count, endings-length}
+use Rattle.template.proofs.AscendingLaws.{body-ascending}
 use Rattle.save.specs.Entries.{Entry}
 use Rattle.save.specs.Files.{fileOf}
 use Rattle.save.proofs.FileLaws.{file-numbers, file-length, file-rule-count, file-schema-count, file-ending-count}

@@ -10,12 +10,12 @@ use native.Mathlib.Omega.{arith}
 use borrow.Author.Tests.{le-leb}
 use lib.Dec.{leb}
 use lib.ListN.{take, drop}
-use Rattle.template.specs.Layout.{byteAt}
-use Rattle.template.specs.Order.{Test, test, firstFault, symbolTests, fieldTests, width, precedes, ascends, entryTests, bodyTests}
-use Rattle.template.specs.declared.Fault.the-variants.{Nowhere}
-use Rattle.template.specs.declared.Body.{Body}
-use Rattle.template.specs.declared.Body.the-variants.{Templates, Schema, Endings}
-use Rattle.template.proofs.OrderLaws.{first-nowhere, nowhere-append}
+use Rattle.entries.specs.Tests.{Test, test, firstFault}
+use Rattle.entries.specs.Entries.{byteAt, symbolTests, fieldTests, width, precedes, ascends, entryTests, bodyTests}
+use Rattle.entries.specs.declared.Fault.the-variants.{Nowhere}
+use Rattle.entries.specs.declared.Body.{Body}
+use Rattle.entries.specs.declared.Body.the-variants.{Templates, Schema, Endings}
+use Rattle.entries.proofs.OrderLaws.{first-nowhere, nowhere-append}
 
 -- ---- tests that hold alike
 

@@ -14,8 +14,8 @@ use Rattle.rows.specs.Tables.{order, Ascending, rowAt, rowsOf, flat}
 use Rattle.rows.specs.declared.Order.the-variants.{Less, Same, More}
 use Rattle.rows.proofs.OrderLaws.{order-above, order-on, order-refl}
 use Rattle.rows.proofs.TableLaws.{Wide, row-zero, row-suc, row-member, rows-wide, rows-flat, flat-length}
-use Rattle.template.specs.Order.{precedes}
-use Rattle.template.proofs.EntryLaws.{EntriesAscend}
+use Rattle.entries.specs.Entries.{precedes}
+use Rattle.entries.proofs.EntryLaws.{EntriesAscend}
 use Rattle.save.specs.Entries.{Entry}
 use Rattle.save.proofs.AscendLaws.{entry-row, entry-member, member-entry}
 

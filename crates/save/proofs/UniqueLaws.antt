@@ -13,14 +13,14 @@ use lib.Dec.{ltb, eqb}
 use Rattle.numbers.proofs.TestLaws.{and-out, or-out}
 use lib.ListN.{length}
 use lib.Seq.{drop-cons}
-use Rattle.template.specs.Layout.{firstBody, mostRules, mostSchemaRules, byteAt, nameCount, nonterminals, states}
-use Rattle.template.specs.Layout.{templateRules, schemaRules, endingStates}
-use Rattle.template.specs.Order.{width, precedes, fieldTests, IsSound}
-use Rattle.template.specs.declared.Body.the-variants.{Endings}
-use Rattle.template.proofs.OrderLaws.{nowhere-holds}
+use Rattle.entries.specs.Entries.{byteAt, width, precedes, fieldTests}
+use Rattle.entries.specs.declared.Body.the-variants.{Endings}
+use Rattle.template.specs.Layout.{firstBody, mostRules, mostSchemaRules, nameCount, nonterminals, states, templateRules, schemaRules}
+use Rattle.template.specs.Layout.{endingStates}
+use Rattle.template.specs.Order.{IsSound}
+use Rattle.entries.proofs.OrderLaws.{nowhere-holds}
 use Rattle.template.proofs.SoundLaws.{sound-file}
-use Rattle.template.proofs.ListLaws.{entry}
-use Rattle.template.proofs.EntryLaws.{EntriesAscend}
+use Rattle.entries.proofs.EntryLaws.{entry, EntriesAscend}
 use Rattle.save.specs.Entries.{SameEntries}
 use Rattle.save.specs.Files.{Bytes, headOf, fileOf}
 use Rattle.save.proofs.FileLaws.{sound-files-same}

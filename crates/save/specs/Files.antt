@@ -4,7 +4,8 @@ use mathlib.Core.Path.{_≡_}
 use mathlib.Core.List.{List, [], _∷_, _++_}
 use Prim.Native.Nat.{ℕ, _+_, _*_, _/_, _%_, _≤_, _<_}
 use lib.ListN.{length, drop}
-use Rattle.template.specs.Layout.{firstBody, byteAt, mostRules, mostSchemaRules}
+use Rattle.entries.specs.Entries.{byteAt}
+use Rattle.template.specs.Layout.{firstBody, mostRules, mostSchemaRules}
 use Rattle.template.specs.declared.Shape.{Shape}
 
 -- every number of the list is a byte

@@ -7,18 +7,12 @@ ghost use lib.Seq.{sets};
 ghost use Rattle.template.specs.Layout.{firstBody, mostRules, mostSchemaRules};
 ghost use Rattle.save.specs.Files.{numbersOf, halfBytes, headFor, fileFor, over, Counted};
 
-fn wide_half(x: u16) -> usize
-    ensures { λ r. ⌜ (r ≡ x) × (r < 65536) ⌝ }
-{
-    x as usize
-}
-
 // Where the schema rules begin.
 fn second_body(shape: template::Shape) -> usize
     requires { ⌜ shape .templates ≤ mostRules ⌝ }
     ensures { λ r. ⌜ r ≡ firstBody + 4 * shape .templates ⌝ }
 {
-    template::FIRST_BODY + 4 * wide_half(shape.templates)
+    template::FIRST_BODY + 4 * numbers::wide_half(shape.templates)
 }
 
 // Where the ending states begin.
@@ -26,7 +20,7 @@ fn third_body(shape: template::Shape) -> usize
     requires { ⌜ (shape .templates ≤ mostRules) × (shape .schema ≤ mostSchemaRules) ⌝ }
     ensures { λ r. ⌜ r ≡ firstBody + 4 * shape .templates + 4 * shape .schema ⌝ }
 {
-    second_body(shape) + 4 * wide_half(shape.schema)
+    second_body(shape) + 4 * numbers::wide_half(shape.schema)
 }
 
 // A number of 16 bits at a place, its low byte first.
@@ -58,11 +52,11 @@ fn put_head(out: &mut [u8], shape: template::Shape)
 {
     put_numbers(out, shape);
     put_half(out, 4, template::FIRST_BODY);
-    put_half(out, 6, wide_half(shape.templates));
+    put_half(out, 6, numbers::wide_half(shape.templates));
     put_half(out, 8, second_body(shape));
-    put_half(out, 10, wide_half(shape.schema));
+    put_half(out, 10, numbers::wide_half(shape.schema));
     put_half(out, 12, third_body(shape));
-    put_half(out, 14, wide_half(shape.endings));
+    put_half(out, 14, numbers::wide_half(shape.endings));
 }
 
 // The bytes of a body, at the start of a lent part.

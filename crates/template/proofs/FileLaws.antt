@@ -5,16 +5,18 @@ use mathlib.Core.List.{List}
 use Prim.Native.Nat.{ℕ, _≤_}
 use borrow.Author.Tests.{leb-true, eqb-true}
 use lib.ListN.{length}
+use Rattle.entries.specs.Tests.{Test, firstFault}
+use Rattle.entries.specs.declared.Fault.{Fault}
+use Rattle.entries.specs.declared.Fault.the-variants.{Nowhere, At}
+use Rattle.entries.specs.declared.Body.{Body}
+use Rattle.entries.specs.declared.Body.the-variants.{Templates, Schema, Endings}
+use Rattle.entries.specs.declared.Sizes.{Sizes}
 use Rattle.template.specs.Layout.{ruleCount, schemaCount, endingCount, schemaStartOf, endingStartOf, bodiesEndOf}
-use Rattle.template.specs.Order.{Test, firstFault, headTests, contentsTests, body, tests, shapeOf, readingOf}
-use Rattle.template.specs.declared.Fault.{Fault}
-use Rattle.template.specs.declared.Fault.the-variants.{Nowhere, At}
-use Rattle.template.specs.declared.Body.{Body}
-use Rattle.template.specs.declared.Body.the-variants.{Templates, Schema, Endings}
+use Rattle.template.specs.Order.{headTests, contentsTests, body, tests, shapeOf, readingOf}
 use Rattle.template.specs.declared.Shape.{Shape}
 use Rattle.template.specs.declared.Reading.the-variants.{Sound, Bad}
-use Rattle.template.proofs.OrderLaws.{nowhere-holds}
-use Rattle.template.proofs.BodyLaws.{entriesOf}
+use Rattle.entries.proofs.OrderLaws.{nowhere-holds}
+use Rattle.entries.proofs.BodyLaws.{entriesOf}
 
 -- the length
 
@@ -39,8 +41,12 @@ module _ (symbols : ℕ) where
   abbrev pub endingTests : List ℕ → List Test
   endingTests f = body Endings f (endingStartOf symbols f) (endingCount f)
 
+-- the sizes that a shape holds
+abbrev pub sizesOf : Shape → Sizes
+sizesOf s = record { names = s .names; nonterminals = s .nonterminals; states = s .states }
+
 pub body-of : (b : Body) (f : List ℕ) {s : Shape} {first place n count : ℕ} {e : Fault}
-    → e ≡ firstFault (entriesOf b s f first first n)
+    → e ≡ firstFault (entriesOf b (sizesOf s) f first first n)
     → s ≡ shapeOf f → first ≡ place → n ≡ count → e ≡ firstFault (body b f place count)
 body-of b f made shape start size = rw (← size, ← start) (rw shape at made)
 

@@ -15,16 +15,16 @@ use borrow.Author.Tests.{ltb-true, leb-true, lt-ltb, le-ltb}
 use Rattle.words.specs.Tags.{Tag, start, end}
 use Rattle.numbers.specs.Fields.{field}
 use Rattle.hedge.specs.Schema.{RulesBelow, EndsBelow}
-use Rattle.template.specs.Layout.{byteAt, nameCount, nonterminals, states, ruleCount, schemaCount, endingCount}
-use Rattle.template.specs.Layout.{ruleWidth, schemaStartOf, endingStartOf, templateRules, schemaRulesOf, endingStatesOf}
-use Rattle.template.specs.Order.{isSymbol, symbolHolds, fieldTests, width}
+use Rattle.entries.specs.Entries.{byteAt, ruleWidth, isSymbol, symbolHolds, fieldTests, width}
+use Rattle.entries.specs.declared.Body.the-variants.{Templates, Schema, Endings}
+use Rattle.template.specs.Layout.{nameCount, nonterminals, states, ruleCount, schemaCount, endingCount, schemaStartOf, endingStartOf}
+use Rattle.template.specs.Layout.{templateRules, schemaRulesOf, endingStatesOf}
 use Rattle.template.specs.Grammar.{Symbol, tag, nonterminal, symbolOf, rightSide, Gives}
-use Rattle.template.specs.declared.Body.the-variants.{Templates, Schema, Endings}
 use Rattle.numbers.proofs.TestLaws.{and-out, or-out}
-use Rattle.template.proofs.RuleLaws.{symbolAt, rule-holds}
+use Rattle.entries.proofs.RuleLaws.{symbolAt, rule-holds}
 use Rattle.template.proofs.SoundLaws.{SoundFileOf, SoundFile}
 use Rattle.template.proofs.ListLaws.{rules-count, schema-rules-count, endings-length, rules-field, schema-rules-field, endings-at}
-use Rattle.template.proofs.EntryLaws.{body-fields, fields-hold}
+use Rattle.entries.proofs.EntryLaws.{body-fields, fields-hold}
 
 -- a tag of one of A names; a symbol that is such a tag or one of N nonterminals; symbols that all are
 abbrev pub TagBelow : ℕ → Tag → Type 0
@@ -88,7 +88,7 @@ module _ {symbols : ℕ} (f : List ℕ) (s : SoundFileOf symbols f) where
   unfolding width fieldTests
   schema-rule-below i h =
       let at = schemaStartOf symbols f + 4 * i in
-      let p = fields-hold Schema f (schemaStartOf symbols f) (schemaCount f) (s .schema-rules-pass) i h in
+      let p = fields-hold Schema (nameCount f) (nonterminals f) (states f) f (schemaStartOf symbols f) (schemaCount f) (s .schema-rules-pass) i h in
       rw (schema-rules-field f s i 0 h (omega arith), add-zero at, schema-rules-field f s i 1 h (omega arith))
       (rw (schema-rules-field f s i 2 h (omega arith), schema-rules-field f s i 3 h (omega arith)) (
         ltb-true (byteAt f at) (states f) (p .0),
@@ -110,7 +110,7 @@ module _ {symbols : ℕ} (f : List ℕ) (s : SoundFileOf symbols f) where
   endings-below j h =
       let k : j < endingCount f = rw (endings-length f s) at h in
       let at = endingStartOf symbols f + 1 * j in
-      let p = fields-hold Endings f (endingStartOf symbols f) (endingCount f) (s .endings-pass) j k in
+      let p = fields-hold Endings (nameCount f) (nonterminals f) (states f) f (endingStartOf symbols f) (endingCount f) (s .endings-pass) j k in
       let q = ltb-true (byteAt f at) (states f) (p .0) in
       rw (endings-at f s j k) (rw (one-mul j) at q)
 

@@ -1,11 +1,7 @@
-pub mod OrderLaws
-pub mod AscentLaws
-pub mod RuleLaws
-pub mod BodyLaws
 pub mod FileLaws
 pub mod PartLaws
 pub mod SoundLaws
 pub mod ListLaws
-pub mod EntryLaws
+pub mod AscendingLaws
 pub mod GrammarLaws
 pub mod ShapeLaws

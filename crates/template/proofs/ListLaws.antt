@@ -10,13 +10,11 @@ use lib.ListN.{length, getD, take, drop, length-drop}
 use lib.Seq.{length-take-le, getD-take, getD-drop, take-take, drop-drop}
 use borrow.Author.Tests.{le-leb}
 use Rattle.numbers.specs.Fields.{field}
-use Rattle.template.specs.Layout.{byteAt, ruleCount, schemaCount, endingCount, ruleWidth, schemaStartOf, endingStartOf}
-use Rattle.template.specs.Layout.{partOf, templateRulesOf, schemaRulesOf, endingStatesOf, templateRules}
+use Rattle.entries.specs.Entries.{byteAt, ruleWidth}
+use Rattle.template.specs.Layout.{ruleCount, schemaCount, endingCount, schemaStartOf, endingStartOf, partOf, templateRulesOf}
+use Rattle.template.specs.Layout.{schemaRulesOf, endingStatesOf, templateRules}
+use Rattle.entries.proofs.EntryLaws.{entry}
 use Rattle.template.proofs.SoundLaws.{SoundFileOf, SoundFile}
-
--- entry i of a list, each entry of the same width
-abbrev pub entry : ℕ → List ℕ → ℕ → List ℕ
-entry wide l i = take wide (drop (wide * i) l)
 
 -- a part that ends within the file
 pub part-is : (f : List ℕ) (at len : ℕ) → at + len ≤ length f → partOf f at len ≡ take len (drop at f)

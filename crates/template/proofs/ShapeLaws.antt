@@ -5,7 +5,8 @@ use mathlib.Core.List.{List}
 use Prim.Native.Nat.{ℕ, _+_, _*_, _≤_}
 use native.Mathlib.Omega.{arith}
 use Rattle.hedge.specs.Schema.{mostStates, RulesBelow, EndsBelow}
-use Rattle.template.specs.Layout.{ruleSymbols, ruleWidth, nameCount, states, partOf, schemaRules, endingStates, schemaRulesOf, endingStatesOf}
+use Rattle.entries.specs.Entries.{ruleSymbols, ruleWidth}
+use Rattle.template.specs.Layout.{nameCount, states, partOf, schemaRules, endingStates, schemaRulesOf, endingStatesOf}
 use Rattle.template.specs.Order.{SoundOf, IsSound, shapeOf, readingOf, reading, number}
 use Rattle.template.specs.declared.Reading.{Reading}
 use Rattle.template.specs.declared.Reading.the-variants.{Sound, Bad}

@@ -9,16 +9,18 @@ use native.Mathlib.Omega.{arith}
 use lib.Dec.{leb}
 use lib.ListN.{length}
 use borrow.Author.Tests.{leb-true, eqb-true, le-leb, eq-eqb}
-use Rattle.template.specs.Layout.{byteAt, halfAt, nameCount, nonterminals, states, ruleCount, schemaCount, endingCount}
-use Rattle.template.specs.Layout.{mostRules, ruleSymbols, ruleWidth, longestFileOf, schemaStartOf, endingStartOf, bodiesEndOf}
-use Rattle.template.specs.Order.{firstFault, between}
-use Rattle.template.specs.Order.{headTests, contentsTests, body, bodies, tests, SoundOf, IsSound, shapeOf, verdict, readingOf, reading}
-use Rattle.template.specs.declared.Fault.{Fault}
-use Rattle.template.specs.declared.Fault.the-variants.{Nowhere, At}
-use Rattle.template.specs.declared.Body.the-variants.{Templates, Schema, Endings}
+use Rattle.entries.specs.Tests.{firstFault}
+use Rattle.entries.specs.Entries.{byteAt, ruleSymbols, ruleWidth}
+use Rattle.entries.specs.declared.Fault.{Fault}
+use Rattle.entries.specs.declared.Fault.the-variants.{Nowhere, At}
+use Rattle.entries.specs.declared.Body.the-variants.{Templates, Schema, Endings}
+use Rattle.template.specs.Layout.{halfAt, nameCount, nonterminals, states, ruleCount, schemaCount, endingCount, mostRules}
+use Rattle.template.specs.Layout.{longestFileOf, schemaStartOf, endingStartOf, bodiesEndOf}
+use Rattle.template.specs.Order.{between, headTests, contentsTests, body, bodies, tests, SoundOf, IsSound, shapeOf, verdict}
+use Rattle.template.specs.Order.{readingOf, reading}
 use Rattle.template.specs.declared.Reading.the-variants.{Sound}
 use Rattle.template.specs.declared.Shape.{Shape}
-use Rattle.template.proofs.OrderLaws.{nowhere-holds, first-append-nowhere, nowhere-append}
+use Rattle.entries.proofs.OrderLaws.{nowhere-holds, first-append-nowhere, nowhere-append}
 use Rattle.numbers.proofs.TestLaws.{and-out}
 
 -- what reading answers

@@ -5,8 +5,9 @@ use mathlib.Core.Bool.{Bool, true, false}
 use mathlib.Core.List.{List, []}
 use Prim.Native.Nat.{ℕ, _+_, _*_}
 use lib.Dec.{leb}
-use lib.ListN.{length, getD, take, drop}
+use lib.ListN.{length, take, drop}
 use Rattle.hedge.specs.Schema.{mostStates}
+use Rattle.entries.specs.Entries.{ruleSymbols, ruleWidth, byteAt}
 
 -- where the first body begins: behind the head and the contents
 abbrev pub firstBody : ℕ
@@ -22,17 +23,6 @@ mostRules = 256
 abbrev pub mostSchemaRules : ℕ
 mostSchemaRules = 128
 
--- a template rule has two symbols; how a file is read is stated for any number of them, and goes up to twelve. Their bytes follow the
--- rule's left side and its length.
-abbrev pub ruleSymbols : ℕ
-ruleSymbols = 2
-
-abbrev pub mostSymbols : ℕ
-mostSymbols = 12
-
-abbrev pub ruleWidth : ℕ → ℕ
-ruleWidth symbols = 2 + symbols
-
 -- the length of the longest file
 abbrev pub longestFileOf : ℕ → ℕ
 longestFileOf symbols = firstBody + ruleWidth symbols * mostRules + 4 * mostSchemaRules + mostStates
@@ -40,10 +30,7 @@ longestFileOf symbols = firstBody + ruleWidth symbols * mostRules + 4 * mostSche
 abbrev pub longestFile : ℕ
 longestFile = longestFileOf ruleSymbols
 
--- the byte at a place, and the 16-bit number
-abbrev pub byteAt : List ℕ → ℕ → ℕ
-byteAt f p = getD f p 0
-
+-- the 16-bit number at a place
 unfoldable pub halfAt : List ℕ → ℕ → ℕ
 halfAt f p = byteAt f p + 256 * byteAt f (p + 1)
 

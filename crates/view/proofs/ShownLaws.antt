@@ -10,12 +10,14 @@ use native.Mathlib.Omega.{arith}
 use lib.Dec.{leb}
 use lib.ListN.{length, take, drop, drop-of-length-le, take-append-drop}
 use lib.Seq.{drop-drop}
-use Rattle.template.specs.declared.Fault.{Fault}
-use Rattle.template.specs.declared.Fault.the-variants.{Nowhere, At}
+use Rattle.entries.specs.Tests.{firstFault}
+use Rattle.entries.specs.Entries.{ruleSymbols}
+use Rattle.entries.specs.declared.Fault.{Fault}
+use Rattle.entries.specs.declared.Fault.the-variants.{Nowhere, At}
 use Rattle.template.specs.declared.Shape.{Shape}
-use Rattle.template.specs.Layout.{ruleSymbols, ruleCount, schemaCount, endingCount, schemaStart, endingStart, bodiesEnd}
-use Rattle.template.specs.Layout.{pickPart, partOf, templateRules, schemaRules, endingStates}
-use Rattle.template.specs.Order.{tests, firstFault, shapeOf, verdict, readingOf, reading, IsSound}
+use Rattle.template.specs.Layout.{ruleCount, schemaCount, endingCount, schemaStart, endingStart, bodiesEnd, pickPart, partOf, templateRules}
+use Rattle.template.specs.Layout.{schemaRules, endingStates}
+use Rattle.template.specs.Order.{tests, shapeOf, verdict, readingOf, reading, IsSound}
 use Rattle.template.proofs.ListLaws.{part-is}
 use Rattle.template.proofs.SoundLaws.{sound-reading, sound-file}
 use Rattle.view.specs.Views.{templatesBy, schemaBy, endingsBy, none, counted, ofSound, templatesIn, schemaIn, endingsIn}

@@ -6,12 +6,14 @@ use Prim.Native.Nat.{ℕ, _+_, _*_}
 use native.Mathlib.Omega.{arith}
 use denote.Ref.{now}
 use borrow.Author.Needs.{needs}
-use Rattle.template.specs.Order.{firstFault, width, bodies}
+use Rattle.entries.specs.Tests.{firstFault}
+use Rattle.entries.specs.Entries.{width, ruleWidth}
+use Rattle.entries.specs.declared.Body.the-variants.{Templates, Schema, Endings}
+use Rattle.template.specs.Order.{bodies}
 use Rattle.template.specs.declared.Shape.{Shape}
-use Rattle.template.specs.declared.Body.the-variants.{Templates, Schema, Endings}
-use Rattle.template.specs.Layout.{firstBody, ruleWidth, ruleCount, schemaCount, endingCount, schemaStartOf}
+use Rattle.template.specs.Layout.{firstBody, ruleCount, schemaCount, endingCount, schemaStartOf}
 use Rattle.template.proofs.FileLaws.{templateTests, schemaTests, endingTests, body-of}
-use Rattle.template.proofs.OrderLaws.{first-stays, first-passes}
+use Rattle.entries.proofs.OrderLaws.{first-stays, first-passes}
 use Rattle.template.proofs.bodies_fault.Statement.{statement}
 use Rattle.template.proofs.bodies_fault.Tie as tie
 

@@ -2,7 +2,7 @@
 use mathlib.Core.Path.{_∙_}
 use borrow.Author.Needs.{needs}
 use Rattle.template.specs.Order.{contentsTests}
-use Rattle.template.proofs.OrderLaws.{ended, tested, first-chain}
+use Rattle.entries.proofs.OrderLaws.{ended, tested, first-chain}
 use Rattle.template.proofs.contents_fault.Statement.{statement}
 use Rattle.template.proofs.contents_fault.Tie as tie
 

@@ -6,9 +6,10 @@ use borrow.Author.Tests.{le-leb, lt-leb}
 use borrow.Author.Needs.{needs}
 use Rattle.words.specs.Tags.{mostNames}
 use Rattle.hedge.specs.Schema.{mostStates}
+use Rattle.entries.specs.Tests.{firstFault}
 use Rattle.template.specs.Layout.{mostNonterminals}
-use Rattle.template.specs.Order.{between, headTests, firstFault}
-use Rattle.template.proofs.OrderLaws.{first-held, ended, tested, first-chain}
+use Rattle.template.specs.Order.{between, headTests}
+use Rattle.entries.proofs.OrderLaws.{first-held, ended, tested, first-chain}
 use Rattle.template.proofs.head_fault.Statement.{statement}
 use Rattle.template.proofs.head_fault.Tie as tie
 

@@ -7,11 +7,12 @@ use native.Mathlib.Omega.{arith}
 use denote.Ref.{now}
 use borrow.Author.Needs.{needs}
 use lib.ListN.{length}
-use Rattle.template.specs.declared.Fault.{Fault}
-use Rattle.template.specs.Order.{Test, firstFault, bodies, headTests, contentsTests, tests}
+use Rattle.entries.specs.Tests.{Test, firstFault}
+use Rattle.entries.specs.declared.Fault.{Fault}
+use Rattle.template.specs.Order.{bodies, headTests, contentsTests, tests}
 use Rattle.template.specs.Layout.{bodiesEndOf}
 use Rattle.template.proofs.FileLaws.{head-length, contents-length, answers-bad, answers-sound}
-use Rattle.template.proofs.OrderLaws.{first-stays, first-passes}
+use Rattle.entries.proofs.OrderLaws.{first-stays, first-passes}
 use Rattle.template.proofs.read_of.Statement.{statement}
 use Rattle.template.proofs.read_of.Tie as tie
 

@@ -1,10 +1,19 @@
 -- So few rules of so few symbols stay below a million bytes, so nothing wraps. Assumes nothing.
 use mathlib.Core.Path.{refl}
+use Prim.Native.Nat.{ℕ, _+_, _*_, _≤_, _<_}
+use native.Mathlib.Nat.{mul-le-mul-right}
 use native.Mathlib.Omega.{arith}
 use borrow.Author.Needs.{needs}
-use Rattle.template.proofs.RuleLaws.{rules-small}
+use Rattle.entries.specs.Entries.{mostSymbols, ruleWidth}
+use Rattle.template.specs.Layout.{firstBody}
 use Rattle.template.proofs.schema_start_of.Statement.{statement}
 use Rattle.template.proofs.schema_start_of.Tie as tie
+
+-- the bytes of this many rules stay below a million
+rules-small : (symbols rules : ℕ) → symbols ≤ mostSymbols → rules < 65536 → firstBody + ruleWidth symbols * rules < 1048576
+rules-small symbols rules h k =
+    let wide : ruleWidth symbols * rules ≤ ruleWidth mostSymbols * rules = mul-le-mul-right rules (omega arith) in
+    omega arith
 
 wide-requires : tie.Need-wide-requires
 wide-requires c κs = search needs

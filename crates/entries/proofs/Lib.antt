@@ -1,0 +1,5 @@
+pub mod OrderLaws
+pub mod AscentLaws
+pub mod RuleLaws
+pub mod BodyLaws
+pub mod EntryLaws
