@@ -1,10 +1,10 @@
 /* The evening build: a check with a budget of its own, 64 rounds, after which a set is left for the night run, which uses the largest
- * budget and always decides. Both are shown side by side on two chains.
+ * budget and always decides. Both are shown side by side on the chain; one that the evening decides needs no night run.
  *
  *     cc -Iinclude examples/evening.c target/staticlib/libujthanor.a -o target/evening && target/evening
  *
- * The chain (docs/RULES.md, section 11): 64 nonterminals, each of which is the next, and the last is one of four empty elements. Its
- * images come down one nonterminal a round, so that it takes 65 rounds. Where the last may also be empty, there are more than 256. */
+ * The chain (docs/RULES.md, section 11): 64 nonterminals, each of which is the next, and the last is one of four empty elements. A
+ * round takes their images one nonterminal further, so that it takes 65. Where the last may also be empty, there are more than 256 images. */
 #include <stdio.h>
 
 #include "ujthanor.h"

@@ -1,5 +1,4 @@
--- How many outermost elements a balanced word has, and two binoids side by side, so that one value tells two things of a word. Rules,
--- section 3.
+-- How many outermost elements a balanced word has, and two binoids side by side, so that one value tells two things of a word.
 use mathlib.Core.Path.{_≡_}
 use mathlib.Core.Bool.{cond}
 use mathlib.Core.List.{List, [], _∷_, _++_}
