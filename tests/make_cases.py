@@ -8,6 +8,7 @@ import os
 K = bytes(int(x) for x in """2 3 2 0 16 0 3 0 28 0 4 0 44 0 1 0 0 2 65 32 1 2 0 66 2 2 1 33 0 0 0 1 0 0 1 0 0 1 1 1 1 0 1 1 1""".split())
 
 cases = []  # (letter, bytes, expected line)
+READ = 65536  # the bytes that the program reads
 
 
 def half(n):
@@ -20,6 +21,11 @@ def file(names=2, nonterminals=3, states=2, templates=(), schema=(), endings=())
     head = bytes((names, nonterminals, states, 0))
     head += half(16) + half(t) + half(16 + 4 * t) + half(s) + half(16 + 4 * t + 4 * s) + half(e)
     return head + b"".join(map(bytes, templates)) + b"".join(map(bytes, schema)) + bytes(endings)
+
+
+def anything(*rules, nonterminals=1):
+    """These template rules under one name and one state, which ends: it derives every balanced string, and every relation is 1."""
+    return file(1, nonterminals, 1, sorted(rules), [(0, 0, 0, 0)], [0])
 
 
 def put(f, place, *values):
@@ -123,20 +129,26 @@ def files():
     bad(put(put(K, 44, 9), 19, 200), 19)
 
 
-def summary(ends=(), starts=(), relations=(0,), *, names=None):
-    """A summary's bytes: ends, starts, 16 names, 17 relations of eight bytes; and the numbers that a line shows of it."""
-    tags = list(ends) + list(starts) if names is None else list(names)
-    return len(ends), len(starts), tags + [0] * (16 - len(tags)), list(relations) + [0] * (17 - len(relations))
+def filled(values, room):
+    return list(values) + [0] * (room - len(values))
+
+
+def summary(ends=(), starts=(), relations=(0,), counts=(), *, names=None):
+    """A summary: ends, starts, 16 names, 17 relations, and 17 counts of outermost elements, each beside its relation; what is not said is 0."""
+    tags = list(ends) + list(starts) if names is None else names
+    return len(ends), len(starts), filled(tags, 16), filled(relations, 17), filled(counts, 17)
 
 
 def raw(s):
-    ends, starts, names, relations = s
-    return bytes([ends, starts]) + bytes(names) + b"".join(r.to_bytes(8, "little") for r in relations)
+    """A summary's bytes: eight for each relation, one for every other number."""
+    ends, starts, names, relations, counts = s
+    return bytes([ends, starts]) + bytes(names) + b"".join(r.to_bytes(8, "little") for r in relations) + bytes(counts)
 
 
 def shown(s):
-    ends, starts, names, relations = s
-    return " ".join(map(str, [ends, starts] + names + relations))
+    """The numbers that a line shows of a summary."""
+    ends, starts, names, relations, counts = s
+    return " ".join(map(str, [ends, starts] + names + relations + counts))
 
 
 NONE = summary()  # the summary of a refusal, and a summary that no fragment has
@@ -168,7 +180,7 @@ def pages():
     page([1, 33], 0)
     page([], 14)
     page([0, 1, 33, 32], 0)
-    page([0, 32, 1, 33], 0)
+    page([0, 32, 1, 33], 14)
     page([1, 33, 1, 33], 14)
     page([0, 33], 11, 1)
     page([0], 13)
@@ -196,55 +208,138 @@ def pages():
     page([0, 32], 14)
     page([1, 1, 33, 33], 14)
     page([1, 0, 32, 33], 0)
+    # derived, but side by side: two and three; below one element they may be as many as the schema wants
+    page([1, 33, 0, 32], 14)
+    page([0, 32, 1, 33, 0, 32], 14)
+    page([0, 0, 32, 1, 33, 0, 32, 32], 0)
+    # a tag that is left comes before it
+    page([0, 32, 1, 33, 0], 13)
+    # state 0 derives any number of elements, also none; a page has one. Five are 1 in two bits, and 257 in a byte
+    sound(anything(), 1, 1, 1, 0, 1, 1)
+    page([], 14)
+    page([0, 32], 0)
+    for many in (2, 3, 4, 5, 6, 257):
+        page([0, 32] * many, 14)
+        page([0] + [0, 32] * many + [32], 0)
 
 
 def fragments():
     unit = 513
+    sound(K, 2, 3, 2, 3, 4, 1)
     fragment([], summary((), (), (unit,)))
-    fragment([1, 33], summary((), (), (2,)))
+    fragment([1, 33], summary((), (), (2,), (1,)))
     fragment([32, 0], summary((0,), (0,), (unit, unit, unit)))
-    fragment([1, 33, 0], summary((), (0,), (2, unit)))
-    fragment([33, 1, 33], summary((1,), (), (unit, 2)))
-    fragment([1, 33, 1, 33], summary((), (), (0,)))
+    fragment([1, 33, 0], summary((), (0,), (2, unit), (1, 0)))
+    fragment([33, 1, 33], summary((1,), (), (unit, 2), (0, 1)))
+    fragment([1, 33, 1, 33], summary((), (), (0,), (2,)))
     fragment([0, 1, 32], NONE, 11, 2)
     fragment([0, 64], NONE, 10, 1)
     fragment([0] * 16, summary((), [0] * 16, [unit] * 17))
     fragment([0] * 17, NONE, 12, 16)
     # in one go ten 0, ten 0 and twenty 32 are too deep at place 16; joined they are not
     fragment([0] * 20 + [32] * 20, NONE, 12, 16)
-    join([0] * 10, [0] * 10 + [32] * 20, summary((), (), (unit,)))
-    join([0] * 16, [0] + [32] * 17, summary((), (), (unit,)))
-    join([0] * 16, [0, 32], summary((), [0] * 16, [unit] * 17))
-    join([0, 1], [33, 32], summary((), (), (2,)))
+    join([0] * 10, [0] * 10 + [32] * 20, summary((), (), (unit,), (1,)))
+    join([0] * 16, [0] + [32] * 17, summary((), (), (unit,), (1,)))
+    join([0] * 16, [0, 32], summary((), [0] * 16, [unit] * 17, [0] * 16 + [1]))
+    join([0, 1], [33, 32], summary((), (), (2,), (1,)))
     join([0], [33], NONE, 11)
     join([0] * 9, [0] * 7, summary((), [0] * 16, [unit] * 17))
     join([0] * 9, [0] * 8, NONE, 12)
-    join([0] * 16, [32] * 16, summary((), (), (unit,)))
+    join([0] * 16, [32] * 16, summary((), (), (unit,), (1,)))
     # the innermost start first, and so outward
     join([0, 1], [32], NONE, 11)
     join([0, 1], [33, 33], NONE, 11)
-    join([1, 0], [32], summary((), (1,), (unit, unit)))
+    join([1, 0], [32], summary((), (1,), (unit, unit), (0, 1)))
     # a mismatch comes before too deep
     join([0] * 9, [33] + [0] * 15, NONE, 11)
     join([32] * 9, [32] * 8, NONE, 12)
     join([32], [0], summary((0,), (0,), (unit, unit, unit)))
     # a relation in its order: one b on the left, none on the right
-    join([1, 33, 0], [32, 1, 33], summary((), (), (0,)))
-    join([0, 1, 33], [32], summary((), (), (2,)))
+    join([1, 33, 0], [32, 1, 33], summary((), (), (0,), (2,)))
+    join([0, 1, 33], [32], summary((), (), (2,), (1,)))
+
+
+def counts():
+    # under K an empty a has the empty word's relation, and counts 1
+    unit, one, two = 513, [0, 32], [0, 32, 0, 32]
+    sound(K, 2, 3, 2, 3, 4, 1)
+    # none, one and two or more elements by themselves, and before and behind each kind of tag
+    fragment(one, summary((), (), (unit,), (1,)))
+    for many in (2, 3, 4, 5, 257):
+        fragment(one * many, summary((), (), (unit,), (2,)))
+    fragment([0, 32, 1, 33], summary((), (), (2,), (2,)))
+    for before, n in (([], 0), (one, 1), (two, 2), (one * 3, 2)):
+        for behind, m in (([], 0), (one, 1), (two, 2), (one * 3, 2)):
+            fragment(before + [32] + behind, summary((0,), (), (unit, unit), (n, m)))
+            fragment(before + [1] + behind, summary((), (1,), (unit, unit), (n, m)))
+    # between the tags, in their order: 16 of them, with 1, 2, 0, 1, .. elements before each
+    fragment(one + [32] + two + [0], summary((0,), (0,), [unit] * 3, (1, 2, 0)))
+    sixteen = [tag for k in range(16) for tag in one * ((k + 1) % 3) + [32 if k < 8 else 0]]
+    fragment(sixteen, summary([0] * 8, [0] * 8, [unit] * 17, [1, 2, 0] * 5 + [1, 0]))
+    # an element counts 1, whatever is in it
+    for inner in ([], one, two, one * 3):
+        fragment([0] + inner + [32], summary((), (), (unit,), (1,)))
+    fragment(one + [0] + two + [32, 0], summary((), (0,), (unit, unit), (2, 0)))
+
+
+def seams():
+    # at a seam counts are added, up to 2
+    unit, one, two = 513, [0, 32], [0, 32, 0, 32]
+    for left, right, n in (([], [], 0), ([], one, 1), (one, [], 1), (one, one, 2), (two, one, 2), (one, two, 2), (two, two, 2), ([], two, 2)):
+        join(left, right, summary((), (), (unit,), (n,)))
+        join([32] + left, right + [0], summary((0,), (0,), [unit] * 3, (0, n, 0)))
+        join([0] + left, right, summary((), (0,), [unit] * 2, (0, n)))
+        join(left, right + [32], summary((0,), (), [unit] * 2, (n, 0)))
+        # an element that the seam closes counts 1, whatever is in it, beside what stands around it
+        join([0] + left, right + [32], summary((), (), (unit,), (1,)))
+        join([0] + left, right + [32] + one, summary((), (), (unit,), (2,)))
+        join([33, 0] + left, right + [32, 1], summary((1,), (1,), [unit] * 3, (0, 1, 0)))
+    join(one + [0], [32], summary((), (), (unit,), (2,)))
+    join(two + [0], [32] + two, summary((), (), (unit,), (2,)))
+    # two elements that the seam closes, one in the other, count as one
+    join([0, 0], [32, 32], summary((), (), (unit,), (1,)))
+    join([0] + two + [0], [32] + two + [32], summary((), (), (unit,), (1,)))
+    # counts away from the seam stay where they stand
+    join(one + [33] + two + [0], [32] + one + [1] + two, summary((1,), (1,), [unit] * 3, (1, 2, 2)))
+    # the last count of 16 tags, which no reading gives: a start more would be too deep
+    join([0] * 16, two, summary((), [0] * 16, [unit] * 17, [0] * 16 + [2]))
+    fragment([0] * 16 + one, NONE, 12, 16)
 
 
 def structs():
-    # summaries that no fragment has
+    # summaries that no fragment has; an element counts 1, also around what no state derives
     join_structs(NONE, NONE, NONE)
-    join_structs(summary((), (0,), (0, 0)), summary((0,), (), (0, 0)), NONE)
-    join_structs(summary((), (0,), (513, 2)), summary((0,), (), (513, 513)), summary((), (), (2,)))
+    join_structs(summary((), (0,), (0, 0)), summary((0,), (), (0, 0)), summary((), (), (0,), (1,)))
+    join_structs(summary((), (0,), (513, 2)), summary((0,), (), (513, 513)), summary((), (), (2,), (1,)))
     join_structs(summary((), (), (1,)), summary((), (), (513,)), summary((), (), (1,)))
-    # no summary: too many tags, a name of A, a bit outside Q, an unused place that is not 0; on either side
+    # counts that fit no relation beside them: one or two elements with the empty word's, no element with another's
+    for n in (1, 2):
+        join_structs(summary((), (), (513,), (n,)), summary((), (), (513,)), summary((), (), (513,), (n,)))
+        join_structs(summary((), (), (513,)), summary((), (), (513,), (n,)), summary((), (), (513,), (n,)))
+        join_structs(summary((), (), (513,), (n,)), summary((), (), (513,), (n,)), summary((), (), (513,), (2,)))
+        join_structs(summary((), (), (0,), (n,)), NONE, summary((), (), (0,), (n,)))
+    join_structs(summary((), (), (2,)), summary((), (), (513,), (1,)), summary((), (), (2,), (1,)))
+    join_structs(summary((), (0,), (513, 513), (2, 2)), summary((0,), (), (513, 513), (2, 2)), summary((), (), (513,), (2,)))
+    join_structs(summary((), (0,), (513, 513), (0, 2)), summary((0,), (), (513, 513), (2, 0)), summary((), (), (513,), (1,)))
+    join_structs(summary([0] * 8, [1] * 8, [513] * 17, [2] * 17), summary((), (), (513,), (2,)), summary([0] * 8, [1] * 8, [513] * 17, [2] * 17))
+    net(NONE, 0)
+    net(summary((), [0] * 16, [0] * 17), 16)
+    net(summary([1] * 16, (), [0] * 17), -16)
+    net(summary((0,), (), (0, 0)), -1)
+    net(summary([0] * 8, [1] * 8, [0] * 17), 0)
+    # counts and net depth have nothing to do with each other
+    net(summary((), (), (513,), (2,)), 0)
+    net(summary((0,), (), (513, 513), (2, 2)), -1)
+    net(summary((), [0] * 16, [513] * 17, [2] * 17), 16)
+
+
+def no_summaries():
+    # too many tags, a name of A, a bit outside Q, a count above 2, an unused place that is not 0; on either side
     wrong = [
         summary([0] * 16, (0,), [0] * 17, names=[0] * 16),
         summary([0] * 17, (), [0] * 17, names=[0] * 16),
-        (255, 255, [0] * 16, [0] * 17),
-        (1, 255, [0] * 16, [0] * 17),
+        (255, 255, [0] * 16, [0] * 17, [0] * 17),
+        (1, 255, [0] * 16, [0] * 17, [0] * 17),
         summary((), (2,), (0, 0)),
         summary((2,), (), (0, 0)),
         summary((), (), (4,)),
@@ -255,16 +350,23 @@ def structs():
         summary((), (0,), (0, 0), names=[0, 1]),
         summary((), (), (0, 1)),
         summary((), (0,), (0, 0, 513)),
+        summary((), (), (513,), (3,)),
+        summary((), (), (513,), (4,)),
+        summary((), (), (513,), (255,)),
+        summary((), (0,), (513, 513), (3, 0)),
+        summary((), (0,), (513, 513), (0, 3)),
+        summary((0,), (), (513, 513), (0, 255)),
+        summary([0] * 8, [1] * 8, [513] * 17, [2] * 16 + [3]),
+        summary((), (), (513,), (0, 1)),
+        summary((), (), (0,), [0] * 16 + [1]),
+        summary((), (0,), (513, 513), (0, 0, 2)),
+        summary((0,), (0,), [513] * 3, (1, 1, 1, 1)),
+        summary([0] * 15, (), [513] * 16, [0] * 16 + [2]),
     ]
     for s in wrong:
         join_structs(s, NONE, NONE, 15)
         join_structs(NONE, s, NONE, 15)
         net(s, 0, 15)
-    net(NONE, 0)
-    net(summary((), [0] * 16, [0] * 17), 16)
-    net(summary([1] * 16, (), [0] * 17), -16)
-    net(summary((0,), (), (0, 0)), -1)
-    net(summary([0] * 8, [1] * 8, [0] * 17), 0)
 
 
 def bad_file():
@@ -277,22 +379,23 @@ def bad_file():
     case("S", raw(summary((), (2,), (0, 0))) + raw(NONE), f"7 16 {shown(NONE)}")
     case("N", raw(NONE), "7 16 0")
     case("N", raw(summary((), (2,), (0, 0))), "7 16 0")
+    case("N", raw(summary((), (), (513,), (3,))), "7 16 0")
 
 
-def check(budget, answer, number, images=0, rows=(), *, length=5300, fill=7):
+def check(budget, answer, number, images=0, rows=(), *, length=5500, fill=7):
     """A check under the file before it. The rows are those that must stand in the worktable; a refusal leaves it as it was."""
-    end = min(length, 5120)
-    left = 0 if images >= 256 else end - 20 * images
+    end = min(length, 5376)
+    left = 0 if images >= 256 else end - 21 * images
     zeros, filled = (0, left) if answer >= 6 else (left, 0)
     shown_rows = "".join(f"{x} " for row in rows for x in row)
     case("C", half(budget) + half(length) + bytes([fill]), f"{answer} {number} {images} {zeros} {filled} {length - end} {shown_rows}")
 
 
-def row(nonterminal, ends, starts, names, relations):
-    """A worktable row."""
-    names = list(names) + [0] * (16 - len(names))
+def row(nonterminal, ends, starts, names, relations, counts=()):
+    """A worktable row; its last entry has the counts, two bits each, the first lowest."""
+    names = filled(names, 16)
     packed = [sum(n << 8 * k for k, n in enumerate(half_names)) for half_names in (names[:8], names[8:])]
-    return [nonterminal + 256 * ends + 65536 * starts] + packed + list(relations) + [0] * (17 - len(relations))
+    return [nonterminal + 256 * ends + 65536 * starts] + packed + filled(relations, 17) + [sum(n << 2 * i for i, n in enumerate(counts))]
 
 
 KT = [(0, 2, 65, 32), (1, 2, 0, 66), (2, 2, 1, 33)]
@@ -309,7 +412,7 @@ def doubling(steps):
     rules = [(1, 1, 0, 255), (steps + 1, 1, 32, 255), (0, 2, 64 + steps, 64 + 2 * steps)]
     for i in list(range(2, steps + 1)) + list(range(steps + 2, 2 * steps + 1)):
         rules.append((i, 2, 63 + i, 63 + i))
-    return file(1, 2 * steps + 1, 1, sorted(rules), [(0, 0, 0, 0)], [0])
+    return anything(*rules, nonterminals=2 * steps + 1)
 
 
 def chain(*last):
@@ -319,16 +422,31 @@ def chain(*last):
 
 
 def circle(base):
-    """64 nonterminals in a circle that nests one element more each time round; 4 different relations: one new image in each round."""
+    """64 nonterminals in a circle that nests one element more each time round, so that a page has one outermost element; 4 different
+    relations, with one new image in each round."""
     rules = [(i, 1, 65 + i, 255) for i in range(62)] + [(62, 2, 127, 32), (63, 2, 0, 64), base]
     return file(1, 64, 6, sorted(rules), [(0, 0, 0, 1), (2, 0, 3, 1), (3, 0, 4, 1), (4, 0, 5, 1)], [0, 1, 5])
 
 
+def shelled(last, *more, **schema):
+    """The start is an element around a chain of 61 nonterminals, which ends in these right sides; number 63 is free for more rules."""
+    rules = [(0, 2, 0, 65), (1, 2, 66, 32)] + [(i, 1, 65 + i, 255) for i in range(2, 62)] + [(62,) + r for r in last]
+    return file(nonterminals=64, templates=sorted(rules + list(more)), **schema)
+
+
+def counted():
+    """16 starts with an element before each, and 16 ends with two behind each, both by doubling; the start is one element around both in
+    a row."""
+    rules = [(0, 2, 65, 32), (1, 2, 0, 66), (2, 2, 67, 68), (3, 2, 69, 69), (4, 2, 72, 72), (5, 2, 70, 70), (6, 2, 71, 71), (7, 2, 78, 78)]
+    rules += [(8, 2, 73, 73), (9, 2, 74, 74), (10, 2, 75, 75), (11, 2, 32, 76), (12, 2, 77, 77), (13, 2, 0, 32), (14, 2, 77, 0)]
+    return anything(*rules, nonterminals=15)
+
+
 def checks():
-    # K: its rows begin 0, 2, 65537; the budget on both sides of its 4 rounds; tables of 5,120 entries, more, and filled with other numbers
-    k_rows = [row(0, 0, 0, [], [2]), row(2, 0, 0, [], [2]), row(1, 0, 1, [0], [513, 2])]
+    # K: its rows begin 0, 2, 65537; the budget on both sides of its 4 rounds; tables of 5,376 entries, more, and filled with other numbers
+    k_rows = [row(0, 0, 0, [], [2], [1]), row(2, 0, 0, [], [2], [1]), row(1, 0, 1, [0], [513, 2], [0, 1])]
     sound(K, 2, 3, 2, 3, 4, 1)
-    for length in (5120, 5121, 5300):
+    for length in (5376, 5377, 5500):
         for fill in (0, 1, 255):
             if fill:
                 check(257, 0, 4, 3, k_rows, length=length, fill=fill)
@@ -336,8 +454,9 @@ def checks():
     check(3, 5, 3)
     check(1, 5, 1)
     # 9, then 8, then 7, then 6
-    check(4, 9, 0, length=5119)
-    check(0, 9, 0, length=5119)
+    check(4, 9, 0, length=5375)
+    check(0, 9, 0, length=5375)
+    check(4, 9, 0, length=5120)
     check(4, 9, 0, length=0)
     check(0, 8, 0)
     check(258, 8, 0)
@@ -345,7 +464,7 @@ def checks():
     bad(put(K, 16, 3), 16)
     check(0, 8, 0)
     check(4, 7, 16)
-    check(4, 9, 0, length=5119)
+    check(4, 9, 0, length=5375)
     sound(like_k((0, 2, 64, 32)), 2, 3, 2, 1, 4, 1)
     check(64, 6, 0)
     sound(like_k(), 2, 3, 2, 0, 4, 1)
@@ -356,7 +475,7 @@ def checks():
     check(2, 5, 2)
     sound(like_k(KT[0], KT[1], (2, 2, 1, 32)), 2, 3, 2, 3, 4, 1)
     check(64, 1, 1)
-    rows = [row(0, 0, 0, [], [1])]
+    rows = [row(0, 0, 0, [], [1], [1])]
     for i in range(5):
         rows += [row(6 + i, 2 ** i, 0, [], [1] * (2 ** i + 1)), row(1 + i, 0, 2 ** i, [], [1] * (2 ** i + 1))]
     sound(doubling(5), 1, 11, 1, 11, 1, 1)
@@ -391,10 +510,73 @@ def checks():
     sound(file(1, 6, 1, sorted(rules), [(0, 0, 0, 0)], [0]), 1, 6, 1, 6, 1, 1)
     check(64, 2, 6)
     # valid is the definition, not the page reader's answer: pages that nest past 16 are in a set that passes
-    sound(file(1, 2, 1, [(0, 0, 255, 255), (0, 2, 0, 65), (1, 2, 64, 32)], [(0, 0, 0, 0)], [0]), 1, 2, 1, 3, 1, 1)
-    check(64, 0, 3, 2, [row(0, 0, 0, [], [1]), row(1, 1, 0, [0], [1, 1])])
+    sound(anything((0, 2, 0, 65), (1, 1, 32, 255), (1, 2, 64, 32), nonterminals=2), 1, 2, 1, 3, 1, 1)
+    check(64, 0, 4, 3, [row(0, 0, 0, [], [1], [1]), row(1, 1, 0, [0], [1, 1]), row(1, 1, 0, [0], [1, 1], [1])])
     page([0] * 16 + [32] * 16, 0)
     page([0] * 17 + [32] * 17, 12, 16)
+
+
+def counted_checks():
+    # images that differ in counts alone: an element around a list of none, one or more elements
+    sound(anything((0, 2, 0, 65), (1, 2, 66, 32), (2, 0, 255, 255), (2, 2, 67, 66), (3, 2, 0, 32), nonterminals=4), 1, 4, 1, 5, 1, 1)
+    lists = [row(2, 0, 0, [], [1], [n]) for n in (0, 1, 2)]
+    closed = [row(1, 1, 0, [0], [1, 1], [n, 0]) for n in (0, 1, 2)]
+    check(64, 0, 5, 8, [row(0, 0, 0, [], [1], [1])] + lists + [row(3, 0, 0, [], [1], [1])] + closed)
+    check(4, 5, 4)
+    # rows are compared by their last entry last: here it descends where the relations ascend
+    ab = {"names": 2, "states": 2, "schema": [(0, 0, 0, 0), (0, 1, 0, 0), (1, 0, 1, 1)], "endings": [0, 1]}
+    sound(file(nonterminals=3, templates=[(0, 2, 0, 65), (1, 2, 66, 32), (2, 0, 255, 255), (2, 2, 1, 33)], **ab), 2, 3, 2, 4, 3, 2)
+    check(64, 0, 4, 6, [row(0, 0, 0, [], [1], [1]), row(0, 0, 0, [], [513], [1]), row(2, 0, 0, [], [1], [1]), row(2, 0, 0, [], [513], [0]),
+                        row(1, 1, 0, [0], [1, 513], [1, 0]), row(1, 1, 0, [0], [513, 513], [0, 0])])
+    # all 17 counts of a row
+    sound(counted(), 1, 15, 1, 15, 1, 1)
+    ends = [row(k, n, 0, [0] * n, [1] * (n + 1), [0] + [2] * n) for k, n in ((11, 1), (10, 2), (9, 4), (8, 8), (4, 16))]
+    starts = [row(k, 0, n, [0] * n, [1] * (n + 1), [1] * n) for k, n in ((14, 1), (7, 2), (6, 4), (5, 8), (3, 16))]
+    balanced = [row(k, 0, 0, [], [1], [n]) for k, n in ((0, 1), (2, 2), (12, 2), (13, 1))]
+    check(64, 0, 11, 15, balanced + ends + [row(1, 0, 1, [0], [1, 1], [0, 2])] + starts)
+    # counts alone make 188 images of 64, and a crowd where there would be none
+    a = {"names": 1, "states": 1, "schema": [(0, 0, 0, 0)], "endings": [0]}
+    up_to_two = [(0, 255, 255), (1, 127, 255), (2, 127, 127)]
+    sound(shelled(up_to_two, (63, 2, 0, 32), **a), 1, 64, 1, 66, 1, 1)
+    check(64, 0, 64, 188)
+    check(63, 5, 63)
+    sound(shelled(up_to_two, (63, 2, 0, 32), (63, 2, 1, 33), **ab), 2, 64, 2, 67, 3, 2)
+    check(64, 4, 52)
+    check(51, 5, 51)
+
+
+def roots():
+    # a start that can be empty, in round 1 and later, is an invalid page, though its schema derives it
+    sound(anything((0, 0, 255, 255)), 1, 1, 1, 1, 1, 1)
+    check(64, 2, 1)
+    sound(anything((0, 0, 255, 255), (0, 2, 0, 32)), 1, 1, 1, 2, 1, 1)
+    check(64, 2, 1)
+    sound(anything((0, 0, 255, 255), (0, 2, 0, 65), (1, 2, 64, 32), nonterminals=2), 1, 2, 1, 3, 1, 1)
+    check(64, 2, 1)
+    sound(anything((0, 1, 65, 255), (1, 1, 66, 255), (2, 0, 255, 255), (2, 2, 0, 32), nonterminals=3), 1, 3, 1, 4, 1, 1)
+    check(64, 2, 3)
+    check(2, 5, 2)
+    # so is one that can be two elements, or more
+    sound(anything((0, 2, 0, 32), (0, 2, 64, 64)), 1, 1, 1, 2, 1, 1)
+    check(64, 2, 2)
+    check(1, 5, 1)
+    sound(anything((0, 2, 65, 66), (1, 2, 67, 67), (2, 2, 67, 67), (3, 2, 0, 32), nonterminals=4), 1, 4, 1, 4, 1, 1)
+    check(64, 2, 3)
+    check(2, 5, 2)
+    # an a and a b, in this order, are derived by K's schema; around them an a makes a page
+    sound(like_k((0, 2, 65, 66), (1, 2, 0, 32), (2, 2, 1, 33)), 2, 3, 2, 3, 4, 1)
+    check(64, 2, 2)
+    sound(like_k((0, 2, 0, 67), (1, 2, 0, 32), (2, 2, 1, 33), (3, 2, 68, 32), (4, 2, 65, 66), nonterminals=5), 2, 5, 2, 5, 4, 1)
+    check(64, 0, 5, 5, [row(0, 0, 0, [], [2], [1]), row(1, 0, 0, [], [513], [1]), row(2, 0, 0, [], [2], [1]), row(4, 0, 0, [], [2], [2]),
+                        row(3, 1, 0, [0], [2, 513], [2, 0])])
+    # a mismatch in the round of an empty page decides; so does an empty page in the round of a string that is too deep
+    sound(file(2, 2, 1, [(0, 0, 255, 255), (0, 1, 65, 255), (1, 2, 0, 33)], [(0, 0, 0, 0)], [0]), 2, 2, 1, 3, 1, 1)
+    check(64, 1, 1)
+    late = [(i, 1, 65 + i, 255) for i in range(4)] + [(4, 0, 255, 255)]
+    deep = [(5, 2, 0, 0)] + [(i, 2, 63 + i, 63 + i) for i in range(6, 10)]
+    sound(anything((0, 2, 73, 32), *late, *deep, nonterminals=10), 1, 10, 1, 11, 1, 1)
+    check(64, 2, 5)
+    check(4, 5, 4)
 
 
 def rule(left, *symbols):
@@ -481,14 +663,20 @@ def main():
     files()
     pages()
     fragments()
+    counts()
+    seams()
     structs()
+    no_summaries()
     bad_file()
     checks()
+    counted_checks()
+    roots()
     splits()
     here = os.path.join(os.path.dirname(__file__), "..", "crates", "cases")
+    read = b"".join(letter.encode() + half(len(data)) + data for letter, data, _ in cases)
+    assert len(read) <= READ
     with open(os.path.join(here, "stdin"), "wb") as f:
-        for letter, data, _ in cases:
-            f.write(letter.encode() + half(len(data)) + data)
+        f.write(read)
     with open(os.path.join(here, "stdout"), "w") as f:
         for _, _, line in cases:
             f.write(line + "\n")

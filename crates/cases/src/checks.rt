@@ -56,15 +56,18 @@ fn least(a: usize, b: usize) -> usize
     if a < b { a } else { b }
 }
 
-// The worktable after a check: how many of the entries behind the rows, up to 5,120, are 0 and how many still hold what filled them; how
-// many past 5,120 do; and the rows, where they are few.
+// Rows are shown of fewer images than these.
+const MANY: usize = 16;
+
+// The worktable after a check: how many of the entries behind the rows, up to 5,376, are 0 and how many still hold what filled them; how
+// many past 5,376 do; and the rows, where they are few.
 fn show_table(table: &[u64], n: usize, images: usize, fill: u64) {
     let end = least(n, worktable::TABLE);
     let rows = least(end, least(images, worktable::IMAGES) * worktable::ROW);
     word(count_of(table, rows, end, 0) as u64);
     word(count_of(table, rows, end, fill) as u64);
     word(count_of(table, end, n, fill) as u64);
-    if images < 12 {
+    if images < MANY {
         show_entries(table, rows);
     }
     io::write_all(STDOUT_FILENO, b"\n");
@@ -88,11 +91,11 @@ fn check_table(file: &[u8], table: &mut [u64], len: usize, budget: usize, fill: 
     }
 }
 
-// 5,300 zeros: a call's result is known to be so long.
-fn blank() -> [u64; 5300]
-    ensures { λ r. ⌜ 5300 ≡ length r ⌝ }
+// 5,500 zeros: a call's result is known to be so long.
+fn blank() -> [u64; 5500]
+    ensures { λ r. ⌜ 5500 ≡ length r ⌝ }
 {
-    [0u64; 5300]
+    [0u64; 5500]
 }
 
 // A check over the first entries of a table.

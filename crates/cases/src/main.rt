@@ -33,6 +33,16 @@ fn run(letter: u8, file: &[u8], bytes: &[u8]) {
     }
 }
 
+// Behind a case of these bytes: a file is the one that the next cases stand under.
+fn behind(letter: u8, c: Cursor, from: usize, to: usize) -> Cursor {
+    let file = letter == b'F';
+    Cursor {
+        at: to,
+        from: if file { from } else { c.from },
+        to: if file { to } else { c.to },
+    }
+}
+
 // The case at a place: answers where the next one starts, or the input's end, and its file.
 fn one(input: &[u8], c: Cursor) -> Cursor {
     let n = input.len();
@@ -62,18 +72,7 @@ fn one(input: &[u8], c: Cursor) -> Cursor {
             run(letter, &input[file_from..file_to], &input[from..to]);
         }
     }
-    if letter == b'F' {
-        return Cursor {
-            at: to,
-            from: from,
-            to: to,
-        };
-    }
-    Cursor {
-        at: to,
-        from: file_from,
-        to: file_to,
-    }
+    behind(letter, c, from, to)
 }
 
 fn all(input: &[u8]) {

@@ -1,11 +1,22 @@
 // Pages and summaries: P, G, J, S and N.
 ghost use Prim.Native.Nat.{_+_, _≤_};
 ghost use lib.ListN.{length};
+ghost use Rattle.pieces.specs.Pieces.{mostTags};
 use crate::print::answer;
 use crate::print::entry;
 use crate::print::last_word;
 use crate::print::word;
 use libc::STDOUT_FILENO;
+
+// Where the parts of a struct in a case's bytes begin: ends, starts, 16 names, 17 relations of eight bytes, 17 counts of outermost elements of
+// one; and its bytes in all, 171.
+const NAMES: usize = 2;
+
+const RELATIONS: usize = NAMES + pieces::TAGS;
+
+const COUNTS: usize = RELATIONS + 8 * (pieces::TAGS + 1);
+
+const STRUCT: usize = COUNTS + pieces::TAGS + 1;
 
 pub fn show_page(file: &[u8], bytes: &[u8]) {
     let r = page::read(file, bytes);
@@ -13,28 +24,40 @@ pub fn show_page(file: &[u8], bytes: &[u8]) {
     io::write_all(STDOUT_FILENO, b"\n");
 }
 
-// The counts, the names and the relations, all of them.
+// The ends, the starts, the names, the relations and the counts of outermost elements, all of them.
 fn show_summary(s: form::Summary) {
     let c = s.counts;
     word(c.ends as u64);
     word(c.starts as u64);
     let names = s.names;
-    let relations = s.values;
+    let values = s.values;
     let mut k = 0;
     while k < pieces::TAGS {
         word(entry(names[k]));
         k += 1;
     }
-    show_relations(relations);
+    show_relations(&values);
+    show_outermost(&values);
 }
 
-fn show_relations(relations: [u64; pieces::PIECES]) {
+fn show_relations(values: &[u64; pieces::PIECES]) {
     let mut k = 0;
-    while k < pieces::TAGS {
-        word(relations[k]);
+    while k <= pieces::TAGS {
+        let p = pieces::piece_at(values, k);
+        word(p.relation);
         k += 1;
     }
-    last_word(relations[pieces::TAGS]);
+}
+
+fn show_outermost(values: &[u64; pieces::PIECES]) {
+    let mut k = 0;
+    while k < pieces::TAGS {
+        let p = pieces::piece_at(values, k);
+        word(p.outermost);
+        k += 1;
+    }
+    let last = pieces::piece_at(values, pieces::TAGS);
+    last_word(last.outermost);
 }
 
 pub fn show_fragment(file: &[u8], bytes: &[u8]) {
@@ -82,32 +105,60 @@ fn relation_at(bytes: &[u8], at: usize) -> u64
     r
 }
 
-// The struct that 154 bytes from a place on hold: ends, starts, 16 names, 17 relations of eight bytes.
-fn summary_at(bytes: &[u8], at: usize) -> form::Summary
-    requires { ⌜ at + 154 ≤ length (now bytes) ⌝ }
+// The names of the struct at a place.
+fn names_at(bytes: &[u8], at: usize) -> [u8; pieces::TAGS]
+    requires { ⌜ at + 171 ≤ length (now bytes) ⌝ }
 {
     let mut names = [0u8; pieces::TAGS];
-    let mut relations = [0u64; pieces::PIECES];
     let mut k = 0;
     while k < pieces::TAGS {
-        names[k] = bytes[at + 2 + k];
-        relations[k] = relation_at(bytes, at + 18 + 8 * k);
+        names[k] = bytes[at + NAMES + k];
         k += 1;
     }
-    relations[pieces::TAGS] = relation_at(bytes, at + 146);
+    names
+}
+
+// Piece k of the struct at a place.
+fn piece_in(bytes: &[u8], at: usize, k: usize) -> pieces::Piece
+    requires { ⌜ (at + 171 ≤ length (now bytes)) × (k ≤ mostTags) ⌝ }
+{
+    let relation = relation_at(bytes, at + RELATIONS + 8 * k);
+    pieces::Piece {
+        relation: relation,
+        outermost: entry(bytes[at + COUNTS + k]),
+    }
+}
+
+// The pieces of the struct at a place.
+fn values_at(bytes: &[u8], at: usize) -> [u64; pieces::PIECES]
+    requires { ⌜ at + 171 ≤ length (now bytes) ⌝ }
+{
+    let mut values = [0u64; pieces::PIECES];
+    let mut k = 0;
+    while k <= pieces::TAGS {
+        pieces::put_piece(&mut values, k, piece_in(bytes, at, k));
+        k += 1;
+    }
+    values
+}
+
+// The struct at a place.
+fn summary_at(bytes: &[u8], at: usize) -> form::Summary
+    requires { ⌜ at + 171 ≤ length (now bytes) ⌝ }
+{
     form::Summary {
         counts: form::counted(numbers::wide(bytes[at]), numbers::wide(bytes[at + 1])),
-        names: names,
-        values: relations,
+        names: names_at(bytes, at),
+        values: values_at(bytes, at),
     }
 }
 
 pub fn join_structs(file: &[u8], bytes: &[u8]) {
-    if bytes.len() < 308 {
+    if bytes.len() < 2 * STRUCT {
         return;
     }
     let left = summary_at(bytes, 0);
-    let right = summary_at(bytes, 154);
+    let right = summary_at(bytes, STRUCT);
     let j = summary::join(file, left, right);
     show_join(j);
 }
@@ -134,7 +185,7 @@ fn show_net(z: i32) {
 }
 
 pub fn show_depth(file: &[u8], bytes: &[u8]) {
-    if bytes.len() < 154 {
+    if bytes.len() < STRUCT {
         return;
     }
     let s = summary_at(bytes, 0);

@@ -4,11 +4,12 @@
 use mathlib.Core.Path.{_≡_, refl, subst, sym}
 use mathlib.Core.List.{List, [], _∷_, map, List·Memᴰ, List·Memᴰ·not-nil, List·Memᴰ·cases-cons}
 use mathlib.Core.Logic.{_⊎_, inl, inr}
-use Prim.Native.Nat.{ℕ, suc}
+use Prim.Native.Nat.{ℕ, suc, _*_}
 use native.Mathlib.Decide.{ℕ-discrete, decLt}
 use lib.IntN.{ℤ, pos}
 use lib.ListN.{take}
 use Rattle.words.specs.Reduced.{tags, starts, ends, net}
+use Rattle.words.specs.Outermost.{atMostSeveral}
 use Rattle.words.specs.Reader.{meet, step, then-tag, then-value, join, fit, limit}
 use Rattle.numbers.specs.Fields.{field}
 use Rattle.numbers.specs.Bits.{bit}
@@ -16,7 +17,7 @@ use Rattle.hedge.specs.Relation.{has}
 use Rattle.numbers.specs.Bits.{any, number as digits}
 use Rattle.hedge.specs.Operations.{same, linked, ended, onePair, fires, wrapped, lowest, relation}
 use Rattle.hedge.specs.Operations.{unit, compose, wrap, accepts}
-use Rattle.pieces.specs.Pieces.{pieceAt, putPiece}
+use Rattle.pieces.specs.Pieces.{pieceLong, pieceAt, putPiece, accepted}
 use Rattle.entries.specs.Tests.{firstFault}
 use Rattle.entries.specs.Entries.{symbolTests, fieldTests, width, precedes, ascends, entryTests, bodyTests}
 use Rattle.template.specs.Layout.{halfAt, partOf}
@@ -43,19 +44,19 @@ use Rattle.demands.proofs.Replies.{fragmentOf, pageOf, joinOf, fragment
 
 -- ---- the lines
 
--- answers and numbers, names, relations, net depth
+-- answers and numbers, names, pieces, net depth
 data Line : Type 0 where
   line : List ℕ → List ℕ → List ℕ → ℤ → Line
 
 abbrev shown : List ℕ → Summary → Line
-shown answers s = line answers (take (tagCount (s .counts)) (s .names)) (take (suc (tagCount (s .counts))) (s .values)) (pos 0)
+shown answers s = line answers (take (tagCount (s .counts)) (s .names)) (take (suc (tagCount (s .counts)) * pieceLong) (s .values)) (pos 0)
 
 -- as the case states it; a fragment's answer is 0
 abbrev stated : Case → Line
 stated (page bytes a n) = line (a ∷ n ∷ []) [] [] (pos 0)
-stated (fragment bytes e s names relations) = line (0 ∷ e ∷ s ∷ []) names relations (pos 0)
+stated (fragment bytes e s names pieces) = line (0 ∷ e ∷ s ∷ []) names pieces (pos 0)
 stated (depth bytes z) = line (0 ∷ []) [] [] z
-stated (joined u v e s names relations) = line (0 ∷ 0 ∷ 0 ∷ e ∷ s ∷ []) names relations (pos 0)
+stated (joined u v e s names pieces) = line (0 ∷ 0 ∷ 0 ∷ e ∷ s ∷ []) names pieces (pos 0)
 stated (refused u v a n) = line (0 ∷ 0 ∷ a ∷ n ∷ []) [] [] (pos 0)
 
 -- as it comes out
@@ -67,10 +68,10 @@ joinedOf u v = joinOf K (fragmentOf K u .summary) (fragmentOf K v .summary)
 
 abbrev run : Case → Line
 run (page bytes a n) = line (answer (pageOf K bytes) ∷ number (pageOf K bytes) ∷ []) [] [] (pos 0)
-run (fragment bytes e s names relations) =
+run (fragment bytes e s names pieces) =
     let m = fragmentOf K bytes .summary in shown (answerOf bytes ∷ m .counts .ends ∷ m .counts .starts ∷ []) m
 run (depth bytes z) = line (answerOf bytes ∷ []) [] [] (net (formOf (fragmentOf K bytes .summary)))
-run (joined u v e s names relations) =
+run (joined u v e s names pieces) =
     let j = joinedOf u v in
     shown (answerOf u ∷ answerOf v ∷ joinAnswer (j .answer) ∷ j .summary .counts .ends ∷ j .summary .counts .starts ∷ []) (j .summary)
 run (refused u v a n) =
@@ -85,7 +86,7 @@ sound = refl
 table : map run cases ≡ map stated cases
 unfolding cases K answerOf joinedOf fragmentOf pageOf joinOf packOf put find findFrom findBy findOn classOf classBy limit fit step meet
     join then-tag then-value tags starts ends net stackOf tagAt pieceAt putPiece endedOf halfAt partOf field bit has any same linked ended
-    onePair fires wrapped digits lowest relation unit compose wrap accepts ℕ-discrete decLt
+    onePair fires wrapped digits lowest relation unit compose wrap accepts accepted atMostSeveral ℕ-discrete decLt
 table = refl
 
 -- ---- a case that comes out as stated holds

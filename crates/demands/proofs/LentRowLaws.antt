@@ -6,10 +6,11 @@ use Prim.Native.Nat.{ℕ, _≤_, _<_}
 use native.Mathlib.Decide.{decLt}
 use native.Mathlib.Omega.{arith}
 use lib.ListN.{length, drop, replicate}
+use Rattle.pieces.specs.Pieces.{pieceAt}
 use Rattle.form.specs.declared.Summary.{Summary}
 use Rattle.summary.specs.Packing.{zeros}
 use Rattle.summary.specs.Answers.{fragmentAnswer, joinAnswer}
-use Rattle.worktable.specs.Packed.{rowWidth, bytesIn, packed}
+use Rattle.worktable.specs.Packed.{rowWidth, listed, digitsIn, packed}
 use Rattle.worktable.proofs.PackedLaws.{packed-length}
 use Rattle.ujthanor.specs.LentRows.{written}
 use Rattle.ujthanor.proofs.CallLaws.{Made, fragment-made, join-made}
@@ -21,11 +22,11 @@ use Rattle.demands.proofs.WorktableLaws.{fronted-rest, fronted-length}
 -- ---- the row of a reply's summary
 
 zero-row : packed 0 zeros ≡ replicate rowWidth 0
-unfolding packed bytesIn zeros
+unfolding packed listed digitsIn pieceAt zeros
 zero-row = refl
 
 row-long : (a : ℕ) (s : Summary) → Made a s → length (packed 0 s) ≡ rowWidth
-row-long a s made = packed-length 0 s (made .long)
+row-long a s made = packed-length 0 s
 
 -- ---- the lent row
 

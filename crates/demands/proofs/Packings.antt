@@ -6,10 +6,10 @@ use Prim.Native.Nat.{ℕ, suc, _+_, _≤_, _<_}
 use native.Mathlib.Omega.{arith}
 use lib.ListN.{set, replicate}
 use Rattle.words.specs.Tags.{Tag, start, end}
-use Rattle.words.specs.Reduced.{Stack, bottom, push, OnlyEnds, EndsFirst, tags}
+use Rattle.words.specs.Reduced.{Stack, bottom, push, OnlyEnds, EndsFirst, GoodStack, tags}
 use Rattle.words.proofs.ReducedLaws.{ends-first-below}
 use Rattle.pieces.specs.declared.Piece.{Piece}
-use Rattle.pieces.specs.Pieces.{mostTags, piecesLong, putPiece}
+use Rattle.pieces.specs.Pieces.{mostTags, piecesLong, putPiece, Counted, PieceWithin}
 use Rattle.pieces.proofs.PieceLaws.{piece-same}
 use Rattle.form.specs.declared.Counts.{Counts}
 use Rattle.form.specs.declared.Summary.{Summary}
@@ -35,7 +35,7 @@ module _ (p : Summary) {t : Stack Piece} {h : Piece} (packs : Packs p t h) where
   packed-count =
       sym (tags-held (p .counts .ends) (tagCount (p .counts)) (p .names) (p .values)) ∙ ap tags (packs .form-is)
 
-  module _ (room : tags t < mostTags) (a : ℕ) (c : Piece) where
+  module _ (room : tags t < mostTags) (a : ℕ) (c : Piece) (few : Counted c) where
     put-packs : (d : Counts) (tag : Tag) → tagCount d ≡ suc (tagCount (p .counts))
         → formOf (put d a c p) ≡ push (formOf p) (lastOf p) tag
         → Packs (put d a c p) (push t h tag) c
@@ -43,7 +43,7 @@ module _ (p : Summary) {t : Stack Piece} {h : Piece} (packs : Packs p t h) where
     put-packs d tag more is =
         let n = packed-count in
         record {
-          holds = holds-put p d (tagCount d) a c refl more (omega arith) (packs .holds);
+          holds = holds-put p d (tagCount d) a c refl more (omega arith) (packs .holds) few;
           form-is = is ∙ ap₂ (λ t h. push t h tag) (packs .form-is) (packs .last-is);
           last-is = piece-same (p .values) (tagCount d) c (packs .holds .values-long) (omega arith);
         }
@@ -75,11 +75,14 @@ only-ends-startless bottom c e = refl
 only-ends-startless (push t h (start a)) c e = absurd e
 only-ends-startless (push t h (end a)) c e = refl
 
-pub pack-packs : (t : Stack Piece) (c : Piece) → EndsFirst t → tags t ≤ mostTags → Packs (packOf t c) t c
+-- where each piece is within q states, and so has 0, 1 or 2 outermost elements
+pub pack-packs : (q : ℕ) (t : Stack Piece) (c : Piece) → EndsFirst t → tags t ≤ mostTags → GoodStack (PieceWithin q) t → PieceWithin q c
+    → Packs (packOf t c) t c
 unfolding packOf tags stackOf
-pack-packs bottom c f l =
-    record { holds = holds-none c; form-is = refl; last-is = piece-same (replicate piecesLong 0) 0 c refl (omega arith) }
-pack-packs (push t h (start a)) c f l = start-packs (packOf t h) (pack-packs t h f (omega arith)) (omega arith) a c
-pack-packs (push t h (end a)) c f l =
-    end-packs (packOf t h) (pack-packs t h (ends-first-below t h (end a) f) (omega arith)) (omega arith) a c
+pack-packs q bottom c f l g k =
+    record { holds = holds-none c (k .1); form-is = refl; last-is = piece-same (replicate piecesLong 0) 0 c refl (omega arith) }
+pack-packs q (push t h (start a)) c f l (g, m) k =
+    start-packs (packOf t h) (pack-packs q t h f (omega arith) g m) (omega arith) a c (k .1)
+pack-packs q (push t h (end a)) c f l (g, m) k =
+    end-packs (packOf t h) (pack-packs q t h (ends-first-below t h (end a) f) (omega arith) g m) (omega arith) a c (k .1)
     (only-ends-startless t h f)

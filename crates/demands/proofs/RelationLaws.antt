@@ -1,5 +1,5 @@
--- What a relation means (specs/Second.antt). Along a word's reduced form each factor between the tags has a value; so it is balanced, and
--- under a sound file the relation of that value is the factor's (pieces/proofs/PieceLaws.antt). Ends stand before starts in every reduced
+-- What a relation and its count mean (specs/Second.antt). Along a word's reduced form each factor between the tags has a value; so
+-- it is balanced, and under a sound file the relation and the count of that value are the factor's (pieces/proofs/PieceLaws.antt). Ends stand before starts in every reduced
 -- form. By induction along the form's tags. Assumes nothing.
 use mathlib.Core.List.{List}
 use Prim.Native.Nat.{ℕ}
@@ -9,7 +9,7 @@ use Rattle.words.specs.Reduced.{Stack, Reduced, whole, after-end, after-start}
 use Rattle.words.proofs.ValueLaws.{value-balanced}
 use Rattle.words.proofs.ReducedLaws.{reduced-ends-first}
 use Rattle.pieces.specs.declared.Piece.{Piece}
-use Rattle.pieces.proofs.PieceLaws.{piece-relation}
+use Rattle.pieces.proofs.PieceLaws.{piece-relation, piece-outermost}
 use Rattle.template.specs.Layout.{states, schemaRules, endingStates}
 use Rattle.template.specs.Order.{IsSound}
 use Rattle.template.proofs.SoundLaws.{sound-file}
@@ -23,6 +23,7 @@ module _ (f : List ℕ) (sound : IsSound f) where
       let s = sound-file f sound in (
         value-balanced (binoidOf f) v,
         piece-relation (states f) (s .few-states) (schemaRules f) (endingStates f) (schema-rules-below f s) (endings-below f s) v,
+        piece-outermost (states f) (s .few-states) (schemaRules f) (endingStates f) (schema-rules-below f s) (endings-below f s) v,
       )
 
   reduced-factored : {w : List Tag} {s : Stack Piece} {c : Piece} → Reduced (binoidOf f) w s c → Factored (schemaOf f) w s c

@@ -6,12 +6,12 @@ use mathlib.Core.List.{List}
 use Prim.Native.Nat.{ℕ, _≤_}
 use Rattle.words.specs.Reduced.{tags}
 use Rattle.words.specs.Reader.{Limited, fits, differs, too-deep, limit}
-use Rattle.words.proofs.ReducedLaws.{reduced-ends-first}
-use Rattle.words.proofs.JoinLaws.{join-ends-first}
+use Rattle.words.proofs.ReducedLaws.{reduced-ends-first, reduced-good}
+use Rattle.words.proofs.JoinLaws.{join-ends-first, join-good}
 use Rattle.words.proofs.LimitLaws.{Answers, limit-iff}
 use Rattle.pieces.specs.declared.Piece.{Piece}
 use Rattle.pieces.specs.Pieces.{mostTags}
-use Rattle.template.specs.Layout.{nameCount}
+use Rattle.template.specs.Layout.{nameCount, states}
 use Rattle.template.specs.Order.{IsSound}
 use Rattle.form.proofs.HeldLaws.{ends-first-held}
 use Rattle.reader.specs.Reads.{Found, whole, refused, no-tag, mismatch, too-many}
@@ -27,6 +27,7 @@ use Rattle.summary.specs.Packing.{zeros}
 use Rattle.schema.specs.Schemas.{binoidOf}
 use Rattle.summary.specs.Fragments.{ReadUnder, FragmentSays}
 use Rattle.summary.specs.Joins.{SummaryUnder, outcomeOf, JoinSays}
+use Rattle.summary.proofs.PlaceLaws.{summary-good}
 use Rattle.schema.proofs.SchemaLaws.{lawsOf, endedOf, ended-means}
 use Rattle.page.specs.declared.PageReply.{PageReply}
 use Rattle.page.specs.declared.PageReply.the-variants as page
@@ -75,7 +76,8 @@ module _ (f : List ℕ) where
         let readable = readable-whole (nameCount f) (binoidOf f) mostTags all in
         let same : readable .tags-left ≡ t = form-unique (nameCount f) (binoidOf f) mostTags (lawsOf f sound) (readable .form) formed .0 in
         let few : tags t ≤ mostTags = subst (λ t. tags t ≤ mostTags) same (readable .few) in
-        (sound, (t, c, read, pack-packs t c (reduced-ends-first (binoidOf f) (formed .reduced)) few))
+        let (g, h) = reduced-good (binoidOf f) (lawsOf f sound) (formed .reduced) in
+        (sound, (t, c, read, pack-packs (states f) t c (reduced-ends-first (binoidOf f) (formed .reduced)) few g h))
     found-says bytes (refused no-tag i) read = (sound, read, refl)
     found-says bytes (refused mismatch i) read = (sound, read, refl)
     found-says bytes (refused too-many i) read = (sound, read, refl)
@@ -102,14 +104,18 @@ module _ (f : List ℕ) where
     module _ (left right : Summary) (l : SummaryUnder f left) (r : SummaryUnder f right) where
       limited-says : (o : Limited Piece) → Answers mostTags (outcomeOf f left right) o → JoinSays f left right (joinReply o)
       limited-says (fits t c) (e, few) =
-          let first = ends-first-held (left .counts .ends) (tagCount (left .counts)) (left .names) (left .values) in (
+          let first = ends-first-held (left .counts .ends) (tagCount (left .counts)) (left .names) (left .values) in
+          let (gl, hl) = summary-good (nameCount f) (states f) left l in
+          let (gr, hr) = summary-good (nameCount f) (states f) right r in
+          let (g, h) = join-good (binoidOf f) (lawsOf f sound) (formOf left) (formOf right) t (lastOf left) (lastOf right) c gl hl gr hr e in (
             (sound, l, r),
             (
               t,
               c,
               e,
               few,
-              pack-packs t c (join-ends-first (binoidOf f) (formOf left) (formOf right) t (lastOf left) (lastOf right) c first e) few,
+              pack-packs (states f) t c (join-ends-first (binoidOf f) (formOf left) (formOf right) t (lastOf left) (lastOf right) c first e) few g
+                  h,
             ),
           )
       limited-says (differs a b) e = ((sound, l, r), (a, b, e), refl)

@@ -91,6 +91,7 @@ pub checked : (f t t′ : List ℕ) (budget : ℕ) (r : CheckReply) → CheckSay
     → Checked f t budget (answer r) (number r) (images r)
 checked f t t′ budget r says = record {
   pass-means = λ e. pass-means f t t′ budget r says e .1;
+  documents = λ e w page. pass-means f t t′ budget r says e .1 w page .0 .2;
   broken-means = λ e. broken-means f t t′ budget r says (broken-range e);
   exact = check-exact f budget t t′ r says;
   rows-mean = λ e. row-means f (pass-means f t t′ budget r says e .0) (number r);

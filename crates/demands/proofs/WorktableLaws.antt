@@ -1,6 +1,6 @@
--- What a check leaves in the worktable (specs/First.antt): a refusal leaves it as it was; otherwise 5,120 entries, rows or zeros, stand
--- before the table's own rest. Rows and the zeros behind them are 5,120 entries, since a pass has at most 256 rows of 20 entries. The
--- number of entries is a variable where it can be, so that nothing counts to 5,120. Assumes nothing.
+-- What a check leaves in the worktable (specs/First.antt): a refusal leaves it as it was; otherwise 5,376 entries, rows or zeros, stand
+-- before the table's own rest. Rows and the zeros behind them are 5,376 entries, since a pass has at most 256 rows of 21 entries. The
+-- number of entries is a variable where it can be, so that nothing counts to 5,376. Assumes nothing.
 use mathlib.Core.Path.{_≡_, sym, ap, _∙_}
 use mathlib.Core.List.{List, _++_, append-assoc}
 use Prim.Native.Nat.{ℕ, _*_, _-_, _≤_}

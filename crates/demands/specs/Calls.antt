@@ -69,7 +69,7 @@ pub record Demands : Type 0 where
   -- what a call from C or Rust says of the struct that a lent row stands for is said of one: every row stands for some struct, and for no other
   pub rows-stand : (row : List ℕ) → (s : Summary) × StandsFor row s
   pub rows-stand-once : (row : List ℕ) (s s′ : Summary) → StandsFor row s → StandsFor row s′ → s ≡ s′
-  -- demand 2: every relation of a word's summary is that of its factor, and the net depth of a joined summary is the sum
+  -- demand 2: every relation and count of a word's summary is that of its factor, and the net depth of a joined summary is the sum
   pub relations-mean : RelationsMean
   pub depths-add : (f : List ℕ) (left right : Summary) (j : JoinReply) (d e g : DepthReply) → JoinSays f left right j
       → joinAnswer (j .answer) ≡ 0 → DepthSays f left d → DepthSays f right e → DepthSays f (j .summary) g

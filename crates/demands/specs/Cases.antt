@@ -2,12 +2,13 @@
 -- file that section 13 splits.
 use mathlib.Core.Path.{_≡_}
 use mathlib.Core.List.{List, [], _∷_, _++_, List·Memᴰ}
-use Prim.Native.Nat.{ℕ, suc, _≤_, _<_}
+use Prim.Native.Nat.{ℕ, suc, _*_, _≤_, _<_}
 use lib.IntN.{ℤ, pos}
 use lib.ListN.{length, take, drop}
 use Rattle.summary.specs.Fragments.{FragmentSays}
 use Rattle.summary.specs.Joins.{JoinSays, DepthSays}
 use Rattle.summary.specs.Answers.{fragmentAnswer, joinAnswer, joinNumber, depthAnswer, netDepth}
+use Rattle.pieces.specs.Pieces.{pieceLong}
 use Rattle.form.specs.Held.{tagCount}
 use Rattle.form.specs.declared.Summary.{Summary}
 use Rattle.summary.specs.declared.FragmentReply.{FragmentReply}
@@ -26,8 +27,8 @@ K =
     ∷ 0 ∷ 2 ∷ 65 ∷ 32 ∷ 1 ∷ 2 ∷ 0 ∷ 66 ∷ 2 ∷ 2 ∷ 1 ∷ 33
     ∷ 0 ∷ 0 ∷ 0 ∷ 1 ∷ 0 ∷ 0 ∷ 1 ∷ 0 ∷ 0 ∷ 1 ∷ 1 ∷ 1 ∷ 1 ∷ 0 ∷ 1 ∷ 1 ∷ 1 ∷ []
 
--- a page with its answer and number; a fragment, and a join of two fragments, with its ends, starts, names and relations; a fragment's
--- net depth; a join's refusal
+-- a page with its answer and number; a fragment, and a join of two fragments, with its ends, starts, names and pieces; a fragment's net
+-- depth; a join's refusal
 pub data Case : Type 0 where
   page : List ℕ → ℕ → ℕ → Case
   fragment : List ℕ → ℕ → ℕ → List ℕ → List ℕ → Case
@@ -35,23 +36,23 @@ pub data Case : Type 0 where
   joined : List ℕ → List ℕ → ℕ → ℕ → List ℕ → List ℕ → Case
   refused : List ℕ → List ℕ → ℕ → ℕ → Case
 
--- the numbers of ends and starts, the names of the tags, the relations
+-- the numbers of ends and starts, the names of the tags, and the pieces: each relation, and behind it its count of outermost elements
 abbrev pub Shows : Summary → ℕ → ℕ → List ℕ → List ℕ → Type 0
-Shows s ends starts names relations =
+Shows s ends starts names pieces =
     (s .counts .ends ≡ ends) × (s .counts .starts ≡ starts) × (take (tagCount (s .counts)) (s .names) ≡ names)
-    × (take (suc (tagCount (s .counts))) (s .values) ≡ relations)
+    × (take (suc (tagCount (s .counts)) * pieceLong) (s .values) ≡ pieces)
 
 -- what a case says of every reply that the promises allow under K
 abbrev pub CaseHolds : Case → Type 0
 CaseHolds (page bytes a n) = (r : PageReply) → PageSays K bytes r → (answer r ≡ a) × (number r ≡ n)
-CaseHolds (fragment bytes ends starts names relations) =
-    (r : FragmentReply) → FragmentSays K bytes r → (fragmentAnswer (r .answer) ≡ 0) × Shows (r .summary) ends starts names relations
+CaseHolds (fragment bytes ends starts names pieces) =
+    (r : FragmentReply) → FragmentSays K bytes r → (fragmentAnswer (r .answer) ≡ 0) × Shows (r .summary) ends starts names pieces
 CaseHolds (depth bytes z) =
     (r : FragmentReply) (d : DepthReply) → FragmentSays K bytes r → DepthSays K (r .summary) d
     → (fragmentAnswer (r .answer) ≡ 0) × (depthAnswer d ≡ 0) × (netDepth d ≡ z)
-CaseHolds (joined u v ends starts names relations) =
+CaseHolds (joined u v ends starts names pieces) =
     (r s : FragmentReply) (j : JoinReply) → FragmentSays K u r → FragmentSays K v s → JoinSays K (r .summary) (s .summary) j
-    → (joinAnswer (j .answer) ≡ 0) × Shows (j .summary) ends starts names relations
+    → (joinAnswer (j .answer) ≡ 0) × Shows (j .summary) ends starts names pieces
 CaseHolds (refused u v a n) =
     (r s : FragmentReply) (j : JoinReply) → FragmentSays K u r → FragmentSays K v s → JoinSays K (r .summary) (s .summary) j
     → (joinAnswer (j .answer) ≡ a) × (joinNumber (j .answer) ≡ n)
@@ -59,19 +60,19 @@ CaseHolds (refused u v a n) =
 unfoldable pub cases : List Case
 cases =
     page (1 ∷ 33 ∷ []) 0 0
-    ∷ fragment (1 ∷ 33 ∷ []) 0 0 [] (2 ∷ [])
+    ∷ fragment (1 ∷ 33 ∷ []) 0 0 [] (2 ∷ 1 ∷ [])
     ∷ page [] 14 0
-    ∷ fragment [] 0 0 [] (513 ∷ [])
+    ∷ fragment [] 0 0 [] (513 ∷ 0 ∷ [])
     ∷ page (0 ∷ 1 ∷ 33 ∷ 32 ∷ []) 0 0
-    ∷ page (0 ∷ 32 ∷ 1 ∷ 33 ∷ []) 0 0
+    ∷ page (0 ∷ 32 ∷ 1 ∷ 33 ∷ []) 14 0
     ∷ page (1 ∷ 33 ∷ 1 ∷ 33 ∷ []) 14 0
     ∷ page (0 ∷ 33 ∷ []) 11 1
     ∷ page (0 ∷ []) 13 0
     ∷ page (32 ∷ []) 13 0
     ∷ page (2 ∷ []) 10 0
-    ∷ fragment (32 ∷ 0 ∷ []) 1 1 (0 ∷ 0 ∷ []) (513 ∷ 513 ∷ 513 ∷ [])
+    ∷ fragment (32 ∷ 0 ∷ []) 1 1 (0 ∷ 0 ∷ []) (513 ∷ 0 ∷ 513 ∷ 0 ∷ 513 ∷ 0 ∷ [])
     ∷ depth (32 ∷ 0 ∷ []) (pos 0)
-    ∷ joined (0 ∷ 1 ∷ []) (33 ∷ 32 ∷ []) 0 0 [] (2 ∷ [])
+    ∷ joined (0 ∷ 1 ∷ []) (33 ∷ 32 ∷ []) 0 0 [] (2 ∷ 1 ∷ [])
     ∷ refused (0 ∷ []) (33 ∷ []) 11 0
     ∷ []
 

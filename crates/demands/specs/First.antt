@@ -62,7 +62,7 @@ pub record ReadOrder (f bytes : List ℕ) (a n : ℕ) : Type 0 where
   pub mismatched : (p : ℕ) → ((a ≡ 11) × (n ≡ p)) ↔ (IsSound f × ReadUnder f bytes (refused mismatch p))
   pub too-deep : (p : ℕ) → ((a ≡ 12) × (n ≡ p)) ↔ (IsSound f × ReadUnder f bytes (refused too-many p))
 
--- then 13 where the page ends with tags unmatched, 14 where it is balanced and not derived, without a number
+-- then 13 where the page ends with tags unmatched, 14 where it is balanced and not valid, without a number
 pub record PageOrder (f bytes : List ℕ) (a n : ℕ) : Type 0 where
   pub numbered : List·Memᴰ a (0 ∷ 7 ∷ 10 ∷ 11 ∷ 12 ∷ 13 ∷ 14 ∷ [])
   pub read-order : ReadOrder f bytes a n

@@ -9,6 +9,7 @@ use lib.IntN.{ℤ, pos, negℤ, _-ℤ_}
 use Rattle.words.specs.Tags.{Tag, start, end}
 use Rattle.words.specs.Balance.{Balanced, Mismatched}
 use Rattle.words.specs.Reduced.{Stack, bottom, push, EndsFirst, tags, Reduced}
+use Rattle.words.specs.Outermost.{OutermostOf}
 use Rattle.hedge.specs.Schema.{mostStates, Schema, Valid}
 use Rattle.hedge.specs.Relation.{RelationOf}
 use Rattle.pieces.specs.declared.Piece.{Piece}
@@ -27,7 +28,7 @@ Unrefused f bytes = IsSound f × AllReadable (nameCount f) (binoidOf f) mostTags
 
 -- ---- pages
 
--- 0 exactly where nothing is refused and the bytes spell a word that is balanced and derived
+-- 0 exactly where nothing is refused and the bytes spell a word that is balanced and derived, with exactly one outermost element
 abbrev pub PageJudged : List ℕ → List ℕ → ℕ → Type 0
 PageJudged f bytes a = (a ≡ 0) ↔ (Unrefused f bytes × ((w : List Tag) × Spelled (nameCount f) bytes w × Valid (schemaOf f) w))
 
@@ -38,19 +39,20 @@ pub record FragmentReduced (f bytes : List ℕ) (a : ℕ) (s : Summary) : Type 0
   pub summarised : (a ≡ 0) ↔ Unrefused f bytes
   pub reduced-form : a ≡ 0 → (w : List Tag) × Spelled (nameCount f) bytes w × SummaryOf f w s
 
--- ---- what a relation means
+-- ---- what a relation and its count mean
 
--- the relation has exactly the state pairs (X, Z) such that X derives the factor, which is balanced, followed by Z
+-- the relation has exactly the state pairs (X, Z) such that X derives the factor, which is balanced, followed by Z; and the count is that of
+-- the factor's outermost elements
 abbrev pub Relates : Schema → List Tag → Piece → Type 0
-Relates S w p = Balanced w × RelationOf mostStates S w (p .relation)
+Relates S w p = Balanced w × RelationOf mostStates S w (p .relation) × OutermostOf w (p .outermost)
 
--- the word is its balanced factors with the unmatched tags between them, each factor with its relation
+-- the word is its balanced factors with the unmatched tags between them, each factor with its relation and count
 pub data Factored (S : Schema) : List Tag → Stack Piece → Piece → Type 0 where
   one-factor : {w : List Tag} {p : Piece} → Relates S w p → Factored S w bottom p
   one-more : {u v : List Tag} {s : Stack Piece} {h p : Piece} (t : Tag) → Factored S u s h → Relates S v p
       → Factored S (u ++ (t ∷ v)) (push s h t) p
 
--- the summary of a word: ends before starts, and every relation is that of its factor
+-- the summary of a word: ends before starts, and every relation and count is that of its factor
 abbrev pub RelationsMean : Type 0
 RelationsMean =
     (f : List ℕ) (w : List Tag) (s : Summary) → IsSound f → SummaryOf f w s

@@ -7,6 +7,7 @@ use mathlib.Core.Logic.{_↔_, _⊎_}
 use Prim.Native.Nat.{ℕ, _+_, _≤_, _<_}
 use lib.ListN.{length}
 use Rattle.words.specs.Tags.{Tag}
+use Rattle.words.specs.Outermost.{OneElement}
 use Rattle.hedge.specs.Schema.{Valid}
 use Rattle.pieces.specs.Pieces.{mostTags}
 use Rattle.template.specs.Layout.{nameCount}
@@ -48,6 +49,11 @@ abbrev pub PassMeans : List ℕ → Type 0
 PassMeans f =
     (w : List Tag) → Produces f w → Valid (schemaOf f) w × ((bytes : List ℕ) × Spelled (nameCount f) bytes w) × ReadAsValid f w
 
+-- every page that can be produced is an XML 1.0 document in its element structure: one root (production 1), and every element in it closed in
+-- its turn by its own name
+abbrev pub DocumentsOnly : List ℕ → Type 0
+DocumentsOnly f = (w : List Tag) → Produces f w → OneElement w
+
 -- some page that can be produced is invalid
 abbrev pub BrokenMeans : List ℕ → Type 0
 BrokenMeans f = (w : List Tag) × Produces f w × (Valid (schemaOf f) w → ⊥)
@@ -55,7 +61,7 @@ BrokenMeans f = (w : List Tag) × Produces f w × (Valid (schemaOf f) w → ⊥)
 -- ---- what a row means
 
 -- the row is that of a nonterminal and the summary of one of its strings, of a tree that is not higher than the round; each relation of
--- that summary is that of its factor
+-- that summary, with its count, is that of its factor
 pub record RowMeans (f : List ℕ) (round : ℕ) (row : List ℕ) : Type 0 where
   pub of : ℕ
   pub string : List Tag
@@ -77,6 +83,7 @@ pub record Exact (f : List ℕ) (budget a n m : ℕ) : Type 0 where
 
 pub record Checked (f t : List ℕ) (budget a n m : ℕ) : Type 0 where
   pub pass-means : a ≡ 0 → PassMeans f
+  pub documents : a ≡ 0 → DocumentsOnly f
   pub broken-means : (a ≡ 1) ⊎ (a ≡ 2) → BrokenMeans f
   pub exact : Lent f t budget → IsSound f → HasPage f → Exact f budget a n m
   pub rows-mean : a ≡ 0 → (rows : List (List ℕ)) → Rows f n rows → (row : List ℕ) → List·Memᴰ row rows → RowMeans f n row

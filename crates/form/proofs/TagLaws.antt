@@ -15,8 +15,8 @@ use Rattle.words.specs.Reader.{reduced, Limited, fits, differs, too-deep, limit
 use Rattle.words.proofs.StepLaws.{step-push, step-same, step-other}
 use Rattle.words.proofs.LimitLaws.{limit-in, limit-out, limit-differ}
 use Rattle.pieces.specs.declared.Piece.{Piece}
-use Rattle.pieces.specs.Pieces.{mostTags, piecesLong, zeroPiece, pieceAt, putPiece, pieces}
-use Rattle.pieces.proofs.PieceLaws.{piece-same, put-length}
+use Rattle.pieces.specs.Pieces.{mostTags, piecesLong, zeroPiece, pieceAt, putPiece, pieces, Counted}
+use Rattle.pieces.proofs.PieceLaws.{piece-same, put-length, put-counted, none-counted, counted-compose}
 use Rattle.form.specs.Held.{tagOf, stackOf, tagCount, summaryOf, formOf, lastOf, Holds}
 use Rattle.form.specs.Steps.{held, outcome, Stepped, after-tag}
 use Rattle.form.specs.declared.Counts.{Counts}
@@ -43,31 +43,33 @@ stepped-deep names values o p = record { says = sym p; holds = tt }
 
 -- the arrays before any tag, and after a tag more or less
 
-pub holds-none : (p : Piece)
+pub holds-none : (p : Piece) → Counted p
     → Holds (summaryOf (record { ends = 0; starts = 0 }) (replicate mostTags 0) (putPiece (replicate piecesLong 0) 0 p))
-holds-none p =
+holds-none p c =
     record {
       names-long = length-replicate {A = ℕ} mostTags 0;
       values-long = put-length (replicate piecesLong 0) 0 p ∙ length-replicate {A = ℕ} piecesLong 0;
       room = omega arith;
       unused = unused-none mostTags piecesLong p;
+      counted = put-counted (replicate piecesLong 0) 0 p (length-replicate {A = ℕ} piecesLong 0) (omega arith) (none-counted piecesLong) c;
     }
 
 pub holds-put : (s : Summary) (d : Counts) (m a : ℕ) (v : Piece) → m ≡ tagCount d → m ≡ suc (tagCount (s .counts))
-    → tagCount (s .counts) < mostTags → Holds s
+    → tagCount (s .counts) < mostTags → Holds s → Counted v
     → Holds (summaryOf d (set (s .names) (tagCount (s .counts)) a) (putPiece (s .values) m v))
-holds-put s d m a v p q l h =
+holds-put s d m a v p q l h c =
     let n = tagCount (s .counts) in
     record {
       names-long = length-set (s .names) n a ∙ h .names-long;
       values-long = put-length (s .values) m v ∙ h .values-long;
       room = omega arith;
       unused = rw (← p) (unused-put n m a v (s .names) (s .values) q (h .unused));
+      counted = put-counted (s .values) m v (h .values-long) (omega arith) (h .counted) c;
     }
 
-holds-take : (s : Summary) (d : Counts) (m : ℕ) (v : Piece) → m ≡ tagCount d → tagCount (s .counts) ≡ suc m → Holds s
+holds-take : (s : Summary) (d : Counts) (m : ℕ) (v : Piece) → m ≡ tagCount d → tagCount (s .counts) ≡ suc m → Holds s → Counted v
     → Holds (summaryOf d (set (s .names) m 0) (putPiece (putPiece (s .values) (tagCount (s .counts)) zeroPiece) m v))
-holds-take s d m v p q h =
+holds-take s d m v p q h c =
     let n = tagCount (s .counts) in
     let i = h .names-long in
     let l = h .room in
@@ -76,6 +78,9 @@ holds-take s d m v p q h =
       values-long = put-length (putPiece (s .values) n zeroPiece) m v ∙ put-length (s .values) n zeroPiece ∙ h .values-long;
       room = omega arith;
       unused = rw (← p) (unused-take n m v (s .names) (s .values) q (omega arith) (h .values-long) l (h .unused));
+      counted =
+          put-counted (putPiece (s .values) n zeroPiece) m v (put-length (s .values) n zeroPiece ∙ h .values-long) (omega arith)
+          (put-counted (s .values) n zeroPiece (h .values-long) l (h .counted) (omega arith)) c;
     }
 
 module _ (lore : List ℕ) (s : Summary) where
@@ -138,7 +143,7 @@ module _ (lore : List ℕ) (s : Summary) where
           let form = push (formOf s) (lastOf s) t in
           rw (p, q)
           (stepped-held d (set (s .names) n name) (putPiece (s .values) (n + 1) v) (after-tag lore s t)
-          (holds-put s d (n + 1) name v (sym more) (omega arith) l h)
+          (holds-put s d (n + 1) name v (sym more) (omega arith) l h (rw unit (omega arith)))
           (rw (more, tag-put t f, limit-in (pieces lore) mostTags form (pieces lore .unit) (omega (arith, form-tags)))
           (ap₂ fits is (piece-same (s .values) (n + 1) v (h .values-long) (omega arith) ∙ unit))))
 
@@ -191,7 +196,7 @@ module _ (lore : List ℕ) (s : Summary) where
         let z : s .counts .ends + (s .counts .starts - 1) ≡ n - 1 = omega arith in
         rw (p, q)
         (stepped-held d (set (s .names) (n - 1) 0) (putPiece (putPiece (s .values) n zeroPiece) (n - 1) v) (after-tag lore s (end name))
-        (holds-take s d (n - 1) v (rw (e, z)) (omega arith) h)
+        (holds-take s d (n - 1) v (rw (e, z)) (omega arith) h (rw r (counted-compose lore before (pieces lore .wrap name inner))))
         (rw (
           e,
           z,

@@ -13,8 +13,8 @@ use borrow.Author.Needs.{needs}
 use Rattle.words.specs.Tags.{Tag}
 use Rattle.words.specs.Reader.{Limited, fits, then-tag-within, then-value-within}
 use Rattle.pieces.specs.declared.Piece.{Piece}
-use Rattle.pieces.specs.Pieces.{mostTags, pieceAt, putPiece, pieces}
-use Rattle.pieces.proofs.PieceLaws.{piece-same, put-length}
+use Rattle.pieces.specs.Pieces.{mostTags, pieceAt, putPiece, pieces, Counted}
+use Rattle.pieces.proofs.PieceLaws.{piece-same, put-length, put-counted, counted-compose}
 use Rattle.form.specs.Held.{tagCount, summaryOf, Holds}
 use Rattle.form.specs.Steps.{held, outcome, Stepped, after-tag, after-turn}
 use Rattle.form.specs.declared.Counts.{Counts}
@@ -83,14 +83,21 @@ module _ (lore : List ℕ) where
       (ap₂ fits (stack-value (c .ends) (tagCount c) w names values) (piece-same values (tagCount c) w (h .values-long) (h .room)))
 
 pub holds-value : (c : Counts) (v : Piece) (names values values′ : List ℕ) → values′ ≡ putPiece values (tagCount c) v
-    → Holds (summaryOf c names values) → Holds (summaryOf c names values′)
-holds-value c v names values values′ p h =
+    → Holds (summaryOf c names values) → Counted v → Holds (summaryOf c names values′)
+holds-value c v names values values′ p h few =
     rw p record {
       names-long = h .names-long;
       values-long = put-length values (tagCount c) v ∙ h .values-long;
       room = h .room;
       unused = unused-value (tagCount c) v names values (h .unused);
+      counted = put-counted values (tagCount c) v (h .values-long) (h .room) (h .counted) few;
     }
+
+pub holds-more : (lore : List ℕ) (c : Counts) (p v : Piece) (names values values′ : List ℕ)
+    → values′ ≡ putPiece values (tagCount c) (pieces lore .compose p v) → Holds (summaryOf c names values)
+    → Holds (summaryOf c names values′)
+holds-more lore c p v names values values′ e h =
+    holds-value c (pieces lore .compose p v) names values values′ e h (counted-compose lore p v)
 
 -- one turn
 module _ (lore : List ℕ) (s : Summary) (t : Tag) (v : Piece) (r : Step) (names values : List ℕ)
@@ -103,7 +110,7 @@ module _ (lore : List ℕ) (s : Summary) (t : Tag) (v : Piece) (r : Step) (names
       let o = after-tag lore s t in
       let h = kept-holds r names values o c told p in
       stepped-held c names values′ (then-value-within (pieces lore) o v)
-      (holds-value c (pieces lore .compose (pieceAt values (tagCount c)) v) names values values′ q h)
+      (holds-more lore c (pieceAt values (tagCount c)) v names values values′ q h)
       (held-value lore c v names values values′ h q
       ∙ ap (λ o. then-value-within (pieces lore) o v) (kept-says r names values o c told p))
 

@@ -1,5 +1,5 @@
--- The two tests at a page's end, on its reduced form: that no tag is left, and that state 0 accepts what it is. Rules, section 7: until
--- then a page is read as a fragment.
+-- The two tests at a page's end, on its reduced form: that no tag is left, and that state 0 accepts what it is and it is one element. Rules,
+-- section 7: until then a page is read as a fragment.
 use mathlib.Core.Bool.{cond}
 use mathlib.Core.List.{List}
 use lib.Dec.{ltb}
@@ -18,7 +18,7 @@ use Rattle.form.specs.declared.Ending.the-variants as ending
 unfoldable pub balanceOf : Counts → Piece → Balance
 balanceOf c last = cond (ltb 0 (tagCount c)) balance.Unmatched (balance.Whole last)
 
--- a page's form, one with tags left, or one that is balanced and not derived
+-- a page's form, one with tags left, or one that is balanced and not derived, or not one element
 unfoldable pub endingOf : List ℕ → Stack Piece → Piece → Ending
 endingOf lore bottom last = cond (acceptsPiece lore last) ending.Page ending.NotDerived
 endingOf lore (push s h t) last = ending.Unmatched

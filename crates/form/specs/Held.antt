@@ -1,4 +1,4 @@
--- A reduced form held in two arrays. Rules, section 6: up to 16 tags, and always one relation more than there are tags; the tags
+-- A reduced form held in two arrays. Rules, section 6: up to 16 tags, and always one piece more than there are tags; the tags
 -- stand in the string's order, ends and then starts, and piece k stands before tag k.
 use mathlib.Core.Path.{_≡_}
 use mathlib.Core.Bool.{Bool, true, false}
@@ -9,7 +9,7 @@ use lib.ListN.{length, getD}
 use Rattle.words.specs.Tags.{Tag, start, end}
 use Rattle.words.specs.Reduced.{Stack, bottom, push}
 use Rattle.pieces.specs.declared.Piece.{Piece}
-use Rattle.pieces.specs.Pieces.{mostTags, piecesLong, zeroPiece, pieceAt}
+use Rattle.pieces.specs.Pieces.{mostTags, piecesLong, zeroPiece, pieceAt, AllCounted}
 use Rattle.form.specs.declared.Counts.{Counts}
 use Rattle.form.specs.declared.Summary.{Summary}
 
@@ -47,10 +47,11 @@ pub record Unused (n : ℕ) (names values : List ℕ) : Type 0 where
   pub names-zero : (k : ℕ) → n ≤ k → getD names k 0 ≡ 0
   pub values-zero : (k : ℕ) → n < k → pieceAt values k ≡ zeroPiece
 
--- the summary has room for its tags, and nothing stands behind them. How long the arrays are is said too: a function does not know it of
--- an array that it was lent
+-- the summary has room for its tags, nothing stands behind them, and each piece has 0, 1 or 2 outermost elements. How long the arrays are is
+-- said too: a function does not know it of an array that it was lent
 pub record Holds (s : Summary) : Type 0 where
   pub names-long : length (s .names) ≡ mostTags
   pub values-long : length (s .values) ≡ piecesLong
   pub room : tagCount (s .counts) ≤ mostTags
   pub unused : Unused (tagCount (s .counts)) (s .names) (s .values)
+  pub counted : AllCounted (s .values)

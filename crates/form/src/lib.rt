@@ -41,7 +41,7 @@ pub enum Balance {
     Unmatched,
 }
 
-// What the two tests at a page's end say.
+// What the two tests at a page's end say; not derived is also what is not one element.
 pub enum Ending {
     Page,
     Unmatched,

@@ -11,8 +11,8 @@ use native.Mathlib.Omega.{arith}
 use lib.ListN.{length}
 use Rattle.words.specs.Tags.{Tag}
 use Rattle.words.specs.Binoid.{Laws, Value}
-use Rattle.words.proofs.ValueLaws.{value-balanced, value-good}
-use Rattle.hedge.specs.Schema.{Schema, Derives, Valid, schemaFrom, RulesBelow, EndsBelow}
+use Rattle.words.proofs.ValueLaws.{value-good}
+use Rattle.hedge.specs.Schema.{Schema, Derives, schemaFrom, RulesBelow, EndsBelow}
 use Rattle.hedge.specs.Relation.{has, RelationOf, Within}
 use Rattle.hedge.specs.Operations.{same, linked, wrapped, unit, compose, wrap, relations, accepts}
 use Rattle.numbers.proofs.TestLaws.{ext-true}
@@ -170,11 +170,4 @@ module _ (K q : ℕ) (fits : q ≤ K) where
       λ d.
           let (t, (_, _, h), e) = value-derived relations-relate p 0 .0 d in
           ended-members q rules ends (has K r) 0 .1 (t, h, e),
-    )
-
-    pub valid-accepts : {w : List Tag} {r : ℕ} → Value (relations K q rules ends) w r
-        → (accepts K ends r ≡ true) ↔ Valid (schemaFrom q rules ends) w
-    valid-accepts p = (
-      λ u. (value-balanced (relations K q rules ends) p, derives-accepts p .0 u),
-      λ v. derives-accepts p .1 (v .1),
     )

@@ -1,6 +1,6 @@
 -- Schemas and what they derive: the source's regular hedge grammars, in their second form. Rules, section 3: an ending state derives the
 -- empty word; by a rule X, a, Y, Z the state X derives an element a around what Y derives, and behind it what Z derives. State 0 is the
--- start, and says what is valid.
+-- start; a word is valid that it derives, and that is one element and nothing beside.
 use mathlib.Core.Path.{_≡_}
 use mathlib.Core.List.{List, [], _∷_, _++_}
 use Prim.Native.Nat.{ℕ, _/_, _<_}
@@ -8,6 +8,7 @@ use lib.ListN.{length, getD}
 use Rattle.numbers.specs.Fields.{field}
 use Rattle.words.specs.Tags.{Tag, start, end}
 use Rattle.words.specs.Balance.{Balanced}
+use Rattle.words.specs.Outermost.{OneElement}
 
 -- the most states
 abbrev pub mostStates : ℕ
@@ -31,9 +32,9 @@ pub data Leads (S : Schema) : ℕ → List Tag → ℕ → Type 0 where
   leads-rule : {x a y z t : ℕ} {u v : List Tag} → S .Rule x a y z → Derives S y u → Leads S z v t
       → Leads S x (start a ∷ (u ++ (end a ∷ v))) t
 
--- valid: balanced, and derived by the schema's start
+-- valid: balanced, derived by the schema's start, and with exactly one outermost element
 abbrev pub Valid : Schema → List Tag → Type 0
-Valid S w = Balanced w × Derives S 0 w
+Valid S w = Balanced w × Derives S 0 w × OneElement w
 
 -- the schema of a list of rules and a list of ending states
 abbrev pub schemaFrom : ℕ → List ℕ → List ℕ → Schema

@@ -1,6 +1,6 @@
 -- What a page's reply must be. Rules, sections 7 and 9: 7 for a bad file; 10, 11 or 12 where the reading ends, as for a fragment; then the
--- two tests of a whole page: 13 where some tags have no partner, 14 where all have but state 0 does not derive it. Else it is valid, in the
--- sense of section 3.
+-- two tests of a whole page: 13 where some tags have no partner, 14 where all have but state 0 does not derive it, or it has not exactly one
+-- outermost element. Else it is valid, in the sense of section 3.
 use mathlib.Core.Path.{_≡_}
 use mathlib.Core.List.{List}
 use Prim.Native.Nat.{ℕ}

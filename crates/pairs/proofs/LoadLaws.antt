@@ -13,7 +13,7 @@ use borrow.Author.Needs.{needs}
 use borrow.Author.Tests.{lt-ltb, le-ltb, eqb-true, eq-eqb}
 use Rattle.numbers.specs.Fields.{field}
 use Rattle.pieces.specs.declared.Piece.{Piece}
-use Rattle.pieces.specs.Pieces.{pieceAt, putPiece}
+use Rattle.pieces.specs.Pieces.{pieceAt, putPiece, Counted}
 use Rattle.pieces.proofs.PieceLaws.{piece-same}
 use Rattle.form.specs.Held.{summaryOf, formOf, lastOf, Holds}
 use Rattle.form.specs.declared.Counts.{Counts}
@@ -108,10 +108,10 @@ row-test t k x v e = rw (← (row-part rowWidth (k * rowWidth) t), e)
 abbrev noTags : Counts
 noTags = record { ends = 0; starts = 0 }
 
-module _ (names values : List ℕ) (zeros : Holds (summaryOf noTags names values)) (empty : Piece) (first : List ℕ)
+module _ (names values : List ℕ) (zeros : Holds (summaryOf noTags names values)) (empty : Piece) (few : Counted empty) (first : List ℕ)
     (first-is : first ≡ putPiece values 0 empty) where
   holds-first : Holds (summaryOf noTags names first)
-  holds-first = holds-value noTags empty names values first first-is zeros
+  holds-first = holds-value noTags empty names values first first-is zeros few
 
   first-piece : pieceAt first 0 ≡ empty
   first-piece = rw first-is (piece-same values 0 empty (zeros .values-long) (omega arith))
@@ -125,7 +125,7 @@ module _ (names values : List ℕ) (zeros : Holds (summaryOf noTags names values
     second-piece = rw both-is (piece-same first 1 empty (holds-first .values-long) (omega arith))
 
     holds-tag : 1 ≡ c .ends + c .starts → Holds (summaryOf c (set names 0 a) both)
-    holds-tag one = rw both-is (holds-put (summaryOf noTags names first) c 1 a empty one (omega arith) (omega arith) holds-first)
+    holds-tag one = rw both-is (holds-put (summaryOf noTags names first) c 1 a empty one (omega arith) (omega arith) holds-first few)
 
     pub loads-end : closes ≡ true → c ≡ record { ends = 1; starts = 0 } → Loads (TagForm empty closes a) (Form c) (set names 0 a) both
     loads-end e d =

@@ -12,8 +12,8 @@ use Rattle.numbers.specs.Bits.{bit}
 use Rattle.words.specs.Reader.{Outcome, reduced, join}
 use Rattle.words.proofs.LimitLaws.{Answers, limit-iff}
 use Rattle.pieces.specs.declared.Piece.{Piece}
-use Rattle.pieces.specs.Pieces.{mostTags, piecesLong, zeroPiece, pieces}
-use Rattle.pieces.proofs.PieceLaws.{no-pieces}
+use Rattle.pieces.specs.Pieces.{mostTags, piecesLong, zeroPiece, pieces, Counted}
+use Rattle.pieces.proofs.PieceLaws.{no-pieces, none-counted}
 use Rattle.form.specs.Held.{tagCount, summaryOf, formOf, lastOf, Holds}
 use Rattle.form.specs.Steps.{outcome, Stepped, after-form}
 use Rattle.form.specs.declared.Counts.{Counts}
@@ -43,7 +43,11 @@ zeros-hold =
         names-zero = unused-none mostTags piecesLong zeroPiece .names-zero;
         values-zero = λ k l. no-pieces piecesLong k;
       };
+      counted = none-counted piecesLong;
     }
+
+pub empty-counted : (lore : List ℕ) (p : Piece) → p ≡ pieces lore .unit → Counted p
+empty-counted lore p e = rw e (omega arith)
 
 -- ---- what is loaded
 
@@ -116,4 +120,4 @@ module _ (lore t : List ℕ) (pair : Selection) (marks : ℕ) (found : Tally) (e
           let (v, h, q, l) = rw p at answers in
           rw is (turn-joined (Kept (record { rows = found .rows; notes = afterDeep marks (found .notes) })) t (is-deep v h q l))
 
-pub ruleset one-turn-laws = (zeros-hold, tally-deep, turn-no-right, needs)
+pub ruleset one-turn-laws = (empty-counted, zeros-hold, tally-deep, turn-no-right, needs)

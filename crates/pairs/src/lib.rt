@@ -9,7 +9,7 @@ ghost use Rattle.words.specs.Reduced.{Stack, tags};
 ghost use Rattle.hedge.specs.Schema.{mostStates};
 ghost use Rattle.lore.specs.Lore.{IsLore};
 ghost use Rattle.pieces.specs.declared.Piece.{Piece};
-ghost use Rattle.pieces.specs.Pieces.{mostTags, pieceAt, pieces};
+ghost use Rattle.pieces.specs.Pieces.{mostTags, pieceAt, pieces, Counted};
 ghost use Rattle.form.specs.Held.{tagCount, summaryOf, formOf, lastOf, Holds};
 ghost use Rattle.worktable.specs.Packed.{rowWidth, mostImages, tableLong, nonterminalIn, RowOf};
 ghost use Rattle.pairs.specs.Books.{tableRow};
@@ -91,6 +91,7 @@ fn load_tag(
     names: &mut [u8; pieces::TAGS],
     values: &mut [u64; pieces::PIECES],
 ) -> Loaded
+    requires { ⌜ Counted empty ⌝ }
     requires { ⌜ Holds (summaryOf (record { ends = 0; starts = 0 }) (now names) (now values)) ⌝ }
     ensures { λ r. ⌜ Loads (TagForm empty closes a) r (now (names .exit)) (now (values .exit)) ⌝ }
 {
@@ -133,6 +134,7 @@ fn load(
     names: &mut [u8; pieces::TAGS],
     values: &mut [u64; pieces::PIECES],
 ) -> Loaded
+    requires { ⌜ Counted empty ⌝ }
     requires { ⌜ Choosable (now table) s k ⌝ }
     requires { ⌜ Holds (summaryOf (record { ends = 0; starts = 0 }) (now names) (now values)) ⌝ }
     ensures { λ r. ⌜ Loads (FormOf empty (now (table .entry)) s k) r (now (names .exit)) (now (values .exit)) ⌝ }

@@ -1,62 +1,120 @@
 -- Pieces. Two parts. Reading and writing a piece of a flat list are those of its entries: the only place where it is opened how a piece
--- stands there. And a piece is its relation: what holds of the binoid of relations, of a schema or of a lore, is carried over to pieces
--- once, over any three operations, and so are the values of words and acceptance. Assumes nothing.
-use mathlib.Core.Path.{_≡_, sym, ap, _∙_}
+-- stands there. And a piece is a relation and a number beside it: what holds of the binoid of relations, of a schema or of a lore, and of that
+-- of numbers of outermost elements holds of both side by side, once over any three operations; a word is accepted where its relation is and its
+-- number is 1. Assumes nothing.
+use mathlib.Core.Path.{_≡_, refl, sym, ap, ap₂, _∙_}
 use mathlib.Core.Logic.{_↔_}
-use mathlib.Core.Bool.{Bool, true}
+use mathlib.Core.Bool.{Bool, true, false, _&&_}
 use mathlib.Core.List.{List}
-use Prim.Native.Nat.{ℕ, _≤_, _<_}
+use Prim.Native.Nat.{ℕ, zero, suc, _+_, _*_, _/_, _≤_, _<_}
+use native.Mathlib.Decide.{ℕ-discrete}
 use native.Mathlib.Omega.{arith}
-use lib.ListN.{length, length-set, replicate, List·getD-eq-default}
+use lib.Dec.{eqb, leb}
+use lib.ListN.{length, length-set, getD, set, replicate, List·getD-eq-default}
 use lib.Seq.{getD-set-same, getD-set-other, ext-getD}
-use borrow.Author.Tests.{eqb-true, eq-eqb}
+use borrow.Author.Tests.{eqb-true, eq-eqb, ne-eqb, leb-true, le-leb}
 use borrow.Author.Needs.{needs}
+use Rattle.numbers.proofs.TestLaws.{and-out}
 use Rattle.words.specs.Tags.{Tag, mostNames}
-use Rattle.words.specs.Binoid.{Binoid, Laws, Value, value-empty, value-element}
-use Rattle.hedge.specs.Schema.{mostStates, Derives, Valid, schemaFrom, RulesBelow, EndsBelow}
+use Rattle.words.specs.Binoid.{Binoid, Laws, Value}
+use Rattle.words.specs.Outermost.{OutermostOf, several, atMostSeveral, outermost, beside}
+use Rattle.words.proofs.ValueLaws.{value-balanced}
+use Rattle.words.proofs.OutermostLaws.{value-sides, beside-laws, few, many, outermost-few, outermost-laws, outermost-one, outermost-of}
+use Rattle.hedge.specs.Schema.{mostStates, Valid, schemaFrom, RulesBelow, EndsBelow}
 use Rattle.hedge.specs.Relation.{RelationOf}
-use Rattle.hedge.specs.Operations.{compose, accepts, full, covers}
-use Rattle.hedge.proofs.NumberLaws.{relations-laws, relation-of-value, derives-accepts, valid-accepts}
+use Rattle.hedge.specs.Operations.{unit, compose, wrap, full, covers, relations}
+use Rattle.hedge.proofs.NumberLaws.{relations-laws, relation-of-value, derives-accepts}
 use Rattle.hedge.proofs.CoverLaws.{covers-within}
-use Rattle.lore.specs.Lore.{NamesBelow, Taught, IsLore}
+use Rattle.lore.specs.Lore.{NamesBelow, Taught, IsLore, taught}
 use Rattle.lore.proofs.LoreLaws.{zero-at}
-use Rattle.lore.proofs.TaughtLaws.{taught-wrap, taught-accepts, rules-wider, ends-wider, taught-laws}
+use Rattle.lore.proofs.TaughtLaws.{taught-wrap, taught-accepts, taught-laws}
 use Rattle.pieces.specs.declared.Piece.{Piece}
-use Rattle.pieces.specs.Pieces.{mostTags, piecesLong, piece, zeroPiece, pieceAt, putPiece}
-use Rattle.pieces.specs.Pieces.{lifted, piecesOf, pieces, PieceWithin, fitsIn, isNone, acceptsPiece}
+use Rattle.pieces.specs.Pieces.{mostTags, pieceLong, piecesLong, piece, zeroPiece, pieceAt, putPiece, listOf}
+use Rattle.pieces.specs.Pieces.{sides, lifted, piecesOf, pieces, Counted, AllCounted, PieceWithin, fitsIn, isNone, accepted, acceptsPiece}
 
 -- ---- pieces in a list
 
 pub piece-same : (pieces : List ℕ) (k : ℕ) (p : Piece) → length pieces ≡ piecesLong → k ≤ mostTags
     → pieceAt (putPiece pieces k p) k ≡ p
 unfolding pieceAt putPiece
-piece-same pieces k p e h = ap piece (getD-set-same pieces k (p .relation) 0 (rw e (omega arith)))
+piece-same pieces k p e h =
+    let first = set pieces (k * pieceLong) (p .relation) in
+    ap₂ piece
+    (getD-set-other first (k * pieceLong + 1) (k * pieceLong) (p .outermost) 0 (λ d. omega (arith, d))
+    ∙ getD-set-same pieces (k * pieceLong) (p .relation) 0 (rw e (omega arith)))
+    (getD-set-same first (k * pieceLong + 1) (p .outermost) 0 (rw (length-set, e) (omega arith)))
 
 pub piece-other : (pieces : List ℕ) (n k : ℕ) (p : Piece) → (k ≡ n → ⊥) → pieceAt (putPiece pieces n p) k ≡ pieceAt pieces k
 unfolding pieceAt putPiece
-piece-other pieces n k p d = ap piece (getD-set-other pieces n k (p .relation) 0 d)
+piece-other pieces n k p d = ap₂ piece (entry (k * pieceLong) (λ e. d (omega (arith, e))) (λ e. omega (arith, e)))
+    (entry (k * pieceLong + 1) (λ e. omega (arith, e)) (λ e. d (omega (arith, e))))
+  where
+    entry : (i : ℕ) → (i ≡ n * pieceLong → ⊥) → (i ≡ n * pieceLong + 1 → ⊥)
+        → getD (set (set pieces (n * pieceLong) (p .relation)) (n * pieceLong + 1) (p .outermost)) i 0 ≡ getD pieces i 0
+    entry i a b =
+        getD-set-other (set pieces (n * pieceLong) (p .relation)) (n * pieceLong + 1) i (p .outermost) 0 b
+        ∙ getD-set-other pieces (n * pieceLong) i (p .relation) 0 a
 
 pub put-length : (pieces : List ℕ) (k : ℕ) (p : Piece) → length (putPiece pieces k p) ≡ length pieces
 unfolding putPiece
-put-length pieces k p = length-set pieces k (p .relation)
+put-length pieces k p =
+    length-set (set pieces (k * pieceLong) (p .relation)) (k * pieceLong + 1) (p .outermost)
+    ∙ length-set pieces (k * pieceLong) (p .relation)
+
+pub no-pieces : (n k : ℕ) → pieceAt (replicate n 0) k ≡ zeroPiece
+unfolding pieceAt
+no-pieces n k = ap₂ piece (zero-at n (k * pieceLong)) (zero-at n (k * pieceLong + 1))
+
+-- pieces with 0, 1 or 2 stay such, where one more of them is written
+pub put-counted : (pieces : List ℕ) (n : ℕ) (p : Piece) → length pieces ≡ piecesLong → n ≤ mostTags
+    → AllCounted pieces → Counted p → AllCounted (putPiece pieces n p)
+put-counted pieces n p e h all c k = at (ℕ-discrete k n)
+  where
+    at : Dec (k ≡ n) → Counted (pieceAt (putPiece pieces n p) k)
+    at (yes d) = rw (d, piece-same pieces n p e h) c
+    at (no d) = rw (piece-other pieces n k p d) (all k)
+
+pub none-counted : (n : ℕ) → AllCounted (replicate n 0)
+none-counted n k = rw (no-pieces n k) (omega arith)
 
 pub pieces-ext : (a b : List ℕ) → length a ≡ piecesLong → length b ≡ piecesLong
     → ((k : ℕ) → k ≤ mostTags → pieceAt a k ≡ pieceAt b k)
     → a ≡ b
 unfolding pieceAt
-pieces-ext a b ea eb e =
-    ext-getD 0 a b (ea ∙ sym eb) (λ k h. let l : k < piecesLong = rw ea at h in ap (λ (p : Piece). p .relation) (e k (omega arith)))
+pieces-ext a b ea eb e = ext-getD 0 a b (ea ∙ sym eb) (λ i h. by i (rw ea at h) (ℕ-discrete i (i / pieceLong * pieceLong)))
+  where
+    by : (i : ℕ) → i < piecesLong → Dec (i ≡ i / pieceLong * pieceLong) → getD a i 0 ≡ getD b i 0
+    by i h (yes d) =
+        rw d (ap (λ (p : Piece). p .relation) (e (i / pieceLong) (omega arith)))
+    by i h (no d) =
+        let s : i ≡ i / pieceLong * pieceLong + 1 = omega arith in
+        rw s (ap (λ (p : Piece). p .outermost) (e (i / pieceLong) (omega arith)))
 
 -- none stands behind the list's end
 pub piece-past : (pieces : List ℕ) (k : ℕ) → length pieces ≡ piecesLong → mostTags < k → pieceAt pieces k ≡ zeroPiece
 unfolding pieceAt
-piece-past pieces k e h = ap piece (List·getD-eq-default pieces 0 {n = k} (omega arith))
+piece-past pieces k e h =
+    ap₂ piece (List·getD-eq-default pieces 0 {n = k * pieceLong} (omega arith))
+    (List·getD-eq-default pieces 0 {n = k * pieceLong + 1} (omega arith))
 
-pub no-pieces : (n k : ℕ) → pieceAt (replicate n 0) k ≡ zeroPiece
-unfolding pieceAt
-no-pieces n k = ap piece (zero-at n k)
+-- the list of given pieces
 
--- ---- a piece is its relation
+pub listed-length : (at : ℕ → Piece) (k n : ℕ) → length (listOf at k n) ≡ n * pieceLong
+unfolding listOf
+listed-length at k zero = refl
+listed-length at k (suc n) = let e = listed-length at (suc k) n in omega (arith, e)
+
+pub listed-piece : (at : ℕ → Piece) (k n i : ℕ) → i < n → pieceAt (listOf at k n) i ≡ at (k + i)
+unfolding pieceAt listOf
+listed-piece at k zero i h = absurd (omega arith)
+listed-piece at k (suc n) zero h = let z : k + 0 ≡ k = omega arith in rw z
+listed-piece at k (suc n) (suc i) h =
+    let z : k + suc i ≡ suc k + i = omega arith in
+    let first : suc i * pieceLong ≡ suc (suc (i * pieceLong)) = omega arith in
+    let second : suc i * pieceLong + 1 ≡ suc (suc (i * pieceLong + 1)) = omega arith in
+    rw (z, second, first) (listed-piece at (suc k) n i (omega arith))
+
+-- ---- a relation and a number beside it
 
 module _ (empty : ℕ) (follow around : ℕ → ℕ → ℕ) where
   -- the operations on relations
@@ -64,30 +122,18 @@ module _ (empty : ℕ) (follow around : ℕ → ℕ → ℕ) where
   plain = record { H = ℕ; unit = empty; compose = follow; wrap = around }
 
   abbrev pub lifted-laws : Laws plain → Laws (lifted empty follow around)
-  lifted-laws L =
-      record {
-        Good = λ p. L .Good (p .relation);
-        good-unit = L .good-unit;
-        good-compose = λ g k. L .good-compose g k;
-        good-wrap = λ g. L .good-wrap g;
-        unit-left = λ g. ap piece (L .unit-left g);
-        unit-right = λ g. ap piece (L .unit-right g);
-        assoc = λ g k l. ap piece (L .assoc g k l);
-      }
+  lifted-laws L = beside-laws plain outermost sides L outermost-laws
 
-  value-down : {w : List Tag} {p : Piece} → Value (lifted empty follow around) w p → Value plain w (p .relation)
-  value-down value-empty = value-empty
-  value-down (value-element u v) = value-element (value-down u) (value-down v)
-
-  value-up : {w : List Tag} {r : ℕ} → Value plain w r → Value (lifted empty follow around) w (piece r)
-  value-up value-empty = value-empty
-  value-up (value-element u v) = value-element (value-up u) (value-up v)
-
-  pub value-lifted : {w : List Tag} {p : Piece} → Value (lifted empty follow around) w p ↔ Value plain w (p .relation)
-  value-lifted = (value-down, value-up)
+  pub value-lifted : {w : List Tag} {p : Piece} → Value (lifted empty follow around) w p
+      → Value plain w (p .relation) × Value outermost w (p .outermost)
+  value-lifted v = value-sides plain outermost sides v
 
 abbrev pub pieces-laws : (lore : List ℕ) → IsLore mostStates lore → Laws (pieces lore)
 pieces-laws lore l = lifted-laws _ _ _ (taught-laws lore l)
+
+-- two words in a row have 0, 1 or 2
+pub counted-compose : (lore : List ℕ) (p q : Piece) → Counted (pieces lore .compose p q)
+counted-compose lore p q = outermost-few (p .outermost + q .outermost)
 
 -- ---- the lore's binoid of pieces is the schema's
 
@@ -98,61 +144,101 @@ module _ (q : ℕ) (rules ends lore : List ℕ) (t : Taught mostStates q rules e
       lifted (t .empty i) (compose mostStates (t .states i))
       (λ a r. taught-wrap mostStates q rules ends lore t rules-below names-below ends-below a r i)
 
-  pub accepts-are : (p : Piece) → acceptsPiece lore p ≡ accepts mostStates ends (p .relation)
-  unfolding acceptsPiece
-  accepts-are p = taught-accepts mostStates q rules ends lore t rules-below names-below ends-below (p .relation)
+  pub accepts-are : (p : Piece) → acceptsPiece lore p ≡ accepted ends p
+  unfolding acceptsPiece accepted
+  accepts-are p =
+      ap (λ (t : Bool). t && eqb (p .outermost) 1)
+      (taught-accepts mostStates q rules ends lore t rules-below names-below ends-below (p .relation))
 
 -- ---- the pieces of a schema
 
-module _ (q : ℕ) (few : q ≤ mostStates) (rules ends : List ℕ) (rules-below : RulesBelow q rules) (ends-below : EndsBelow q ends) where
+module _ (q : ℕ) (fits : q ≤ mostStates) (rules ends : List ℕ) (rules-below : RulesBelow q rules) (ends-below : EndsBelow q ends) where
   abbrev pub piecesOf-laws : Laws (piecesOf q rules ends)
-  piecesOf-laws = lifted-laws _ _ _ (relations-laws mostStates q few rules ends rules-below ends-below)
+  piecesOf-laws = lifted-laws _ _ _ (relations-laws mostStates q fits rules ends rules-below ends-below)
 
   pub piece-relation : {w : List Tag} {p : Piece} → Value (piecesOf q rules ends) w p
       → RelationOf mostStates (schemaFrom q rules ends) w (p .relation)
-  piece-relation v = relation-of-value mostStates q few rules ends rules-below ends-below (value-lifted _ _ _ .0 v)
+  piece-relation v = relation-of-value mostStates q fits rules ends rules-below ends-below (value-lifted _ _ _ v .0)
 
-  pub piece-derives : {w : List Tag} {p : Piece} → Value (piecesOf q rules ends) w p
-      → (accepts mostStates ends (p .relation) ≡ true) ↔ Derives (schemaFrom q rules ends) 0 w
-  piece-derives v = derives-accepts mostStates q few rules ends rules-below ends-below (value-lifted _ _ _ .0 v)
+  pub piece-outermost : {w : List Tag} {p : Piece} → Value (piecesOf q rules ends) w p → OutermostOf w (p .outermost)
+  piece-outermost v = outermost-of (value-lifted (unit mostStates q) (compose mostStates q) (wrap mostStates rules ends) v .1)
 
+  -- accepted is valid: the relation tells what state 0 derives, the number that it is one element
   pub piece-accepts : {w : List Tag} {p : Piece} → Value (piecesOf q rules ends) w p
-      → (accepts mostStates ends (p .relation) ≡ true) ↔ Valid (schemaFrom q rules ends) w
-  piece-accepts v = valid-accepts mostStates q few rules ends rules-below ends-below (value-lifted _ _ _ .0 v)
-
-  -- the same as a lore of the schema tells it
-  module _ (lore : List ℕ) (t : Taught mostStates q rules ends lore) (names-below : NamesBelow mostNames rules) where
-    acceptance : (p : Piece) → acceptsPiece lore p ≡ accepts mostStates ends (p .relation)
-    acceptance =
-        accepts-are q rules ends lore t (rules-wider q mostStates rules few rules-below) names-below
-        (ends-wider q mostStates ends few ends-below)
-
-    pub lore-derives : {w : List Tag} {p : Piece} → Value (piecesOf q rules ends) w p
-        → (acceptsPiece lore p ≡ true) ↔ Derives (schemaFrom q rules ends) 0 w
-    lore-derives {p = p} v = rw (acceptance p) (piece-derives v)
-
-    pub lore-accepts : {w : List Tag} {p : Piece} → Value (piecesOf q rules ends) w p
-        → (acceptsPiece lore p ≡ true) ↔ Valid (schemaFrom q rules ends) w
-    lore-accepts {p = p} v = rw (acceptance p) (piece-accepts v)
+      → (accepted ends p ≡ true) ↔ Valid (schemaFrom q rules ends) w
+  unfolding accepted
+  piece-accepts {p = p} v =
+      let (r, n) = value-lifted _ _ _ v in
+      let derives = derives-accepts mostStates q fits rules ends rules-below ends-below r in (
+        λ e.
+            let (a, b) = and-out _ e in
+            (value-balanced (relations mostStates q rules ends) r, derives .0 a, outermost-one n .0 (eqb-true (p .outermost) 1 b)),
+        λ (b, d, o). rw (derives .1 d) (eq-eqb (p .outermost) 1 (outermost-one n .1 o)),
+      )
 
 -- ---- a piece within so many states
 
 pub fits-within : (q : ℕ) (p : Piece) → (fitsIn q p ≡ true) ↔ PieceWithin q p
 unfolding fitsIn
-fits-within q p = covers-within mostStates q (p .relation)
+fits-within q p =
+    let c = covers-within mostStates q (p .relation) in (
+      λ e. let (a, b) = and-out _ e in (c .0 a, leb-true (p .outermost) several b),
+      λ (w, l). rw (c .1 w) (le-leb (p .outermost) several l),
+    )
 
 -- an unused place
 pub none-is : (p : Piece) → (isNone p ≡ true) ↔ (p ≡ zeroPiece)
 unfolding isNone
-none-is p = (λ e. ap piece (eqb-true (p .relation) 0 e), λ e. eq-eqb (p .relation) 0 (ap (λ (q : Piece). q .relation) e))
+none-is p = (
+  λ e. let (a, b) = and-out _ e in ap₂ piece (eqb-true (p .relation) 0 a) (eqb-true (p .outermost) 0 b),
+  λ e.
+      rw (eq-eqb (p .relation) 0 (ap (λ (q : Piece). q .relation) e))
+      (eq-eqb (p .outermost) 0 (ap (λ (q : Piece). q .outermost) e)),
+)
 
 -- ---- in the words of the code
 
-pub piece-is : (r s : ℕ) → r ≡ s → piece r ≡ piece s
-piece-is r s e = ap piece e
+pub piece-is : (r s m n : ℕ) → r ≡ s → m ≡ n → piece r m ≡ piece s n
+piece-is r s m n e d = ap₂ piece e d
 
-pub fits-is : (q f : ℕ) (p : Piece) (t : Bool) → f ≡ full mostStates q → t ≡ covers f (p .relation) → t ≡ fitsIn q p
-unfolding fitsIn
-fits-is q f p t e u = rw (← e) u
+-- outermost elements in a row: where either side has too many, and where neither has
 
-pub ruleset parts = (piece-is, fits-is, needs)
+pub many-left : (m n r : ℕ) → several ≤ m → r ≡ several → r ≡ atMostSeveral (m + n)
+many-left m n r h e = e ∙ sym (many (m + n) (omega arith))
+
+pub many-right : (m n r : ℕ) → several ≤ n → r ≡ several → r ≡ atMostSeveral (m + n)
+many-right m n r h e = e ∙ sym (many (m + n) (omega arith))
+
+pub few-both : (m n r : ℕ) → m < several → n < several → r ≡ m + n → r ≡ atMostSeveral (m + n)
+few-both m n r h l e = e ∙ sym (few (m + n) (omega arith))
+
+-- a test and one more: where the first fails, and where it passes
+
+pub first-fails : (a b t : Bool) → t ≡ a → t ≡ false → t ≡ (a && b)
+first-fails a b t e f = rw (← e, f)
+
+pub first-passes : (a b t u : Bool) → t ≡ a → t ≡ true → u ≡ b → u ≡ (a && b)
+first-passes a b t u e f d = rw (← e, f) d
+
+-- the number's test comes behind that of the relation
+
+module _ (p : Piece) where
+  pub not-none : (p .relation ≡ 0 → ⊥) → eqb (p .relation) 0 ≡ isNone p
+  unfolding isNone
+  not-none d = rw (ne-eqb (p .relation) 0 d)
+
+  pub then-none : p .relation ≡ 0 → eqb (p .outermost) 0 ≡ isNone p
+  unfolding isNone
+  then-none e = rw (eq-eqb (p .relation) 0 e)
+
+  module _ (q f : ℕ) (t : Bool) (whole : f ≡ full mostStates q) (test : t ≡ covers f (p .relation)) where
+    pub not-covered : t ≡ false → t ≡ fitsIn q p
+    unfolding fitsIn
+    not-covered e = first-fails (covers (full mostStates q) (p .relation)) _ t (rw (← whole) test) e
+
+    pub then-few : t ≡ true → leb (p .outermost) several ≡ fitsIn q p
+    unfolding fitsIn
+    then-few e = first-passes (covers (full mostStates q) (p .relation)) _ t _ (rw (← whole) test) e refl
+
+pub ruleset parts =
+    (piece-is, many-left, many-right, few-both, first-fails, first-passes, not-none, then-none, not-covered, then-few, needs)

@@ -1,7 +1,7 @@
 -- What the check of a template set must answer, and what it leaves in the worktable.
 -- Rules, sections 8 to 10 and 12: refusals come in the order 9, 8, 7, 6 and leave the worktable as it was; then the rounds decide. An
--- answer from 1 to 5 leaves 5,120 zeros, a pass the rows of the images and zeros behind them. What a longer worktable has past its first
--- 5,120 entries stays, whatever the answer.
+-- answer from 1 to 5 leaves 5,376 zeros, a pass the rows of the images and zeros behind them. What a longer worktable has past its first
+-- 5,376 entries stays, whatever the answer.
 use mathlib.Core.Path.{_≡_}
 use mathlib.Core.List.{List, _++_, List·Memᴰ}
 use Prim.Native.Nat.{ℕ, suc, _*_, _-_, _≤_, _<_}

@@ -18,11 +18,11 @@ use Rattle.words.proofs.ValueLaws.{value-balanced}
 use Rattle.words.proofs.ReducedLaws.{reduced-whole}
 use Rattle.words.proofs.ReadLaws.{balanced-bottom}
 use Rattle.hedge.specs.Schema.{mostStates, RulesBelow, EndsBelow, Valid}
-use Rattle.hedge.specs.Operations.{unit, compose, wrap, accepts}
+use Rattle.hedge.specs.Operations.{unit, compose, wrap}
 use Rattle.lore.specs.Lore.{statesIn, emptyIn, taughtWrap, NamesBelow, IsLore}
 use Rattle.lore.proofs.TaughtLaws.{taught-wrap}
 use Rattle.pieces.specs.declared.Piece.{Piece}
-use Rattle.pieces.specs.Pieces.{pieces}
+use Rattle.pieces.specs.Pieces.{pieces, accepted}
 use Rattle.pieces.proofs.PieceLaws.{piecesOf-laws, pieces-are, accepts-are, piece-accepts}
 use Rattle.template.specs.Layout.{states, schemaRules, endingStates}
 use Rattle.template.specs.Order.{IsSound}
@@ -76,7 +76,7 @@ module _ (f : List ℕ) (w : List Tag) where
 -- ---- the two tests at a page's end, by the schema itself
 
 unfoldable pub endedOf : List ℕ → Stack Piece → Piece → Ending
-endedOf f bottom c = cond (accepts mostStates (endingStates f) (c .relation)) ending.Page ending.NotDerived
+endedOf f bottom c = cond (accepted (endingStates f) c) ending.Page ending.NotDerived
 endedOf f (push s h t) c = ending.Unmatched
 
 -- the form of a valid page
@@ -93,12 +93,12 @@ form-decided f s c = page-decided (endedOf f s c)
 
 module _ (f : List ℕ) (sound : IsSound f) where
   piece-valid : {w : List Tag} {c : Piece} → Value (binoidOf f) w c
-      → (accepts mostStates (endingStates f) (c .relation) ≡ true) ↔ Valid (schemaOf f) w
+      → (accepted (endingStates f) c ≡ true) ↔ Valid (schemaOf f) w
   piece-valid v =
       let s = sound-file f sound in
       piece-accepts (states f) (s .few-states) (schemaRules f) (endingStates f) (schema-rules-below f s) (endings-below f s) v
 
-  accepted-means : {w : List Tag} {c : Piece} → Value (binoidOf f) w c → (t : Bool) → accepts mostStates (endingStates f) (c .relation) ≡ t
+  accepted-means : {w : List Tag} {c : Piece} → Value (binoidOf f) w c → (t : Bool) → accepted (endingStates f) c ≡ t
       → Means f w (cond t ending.Page ending.NotDerived)
   accepted-means v true e = piece-valid v .0 e
   accepted-means v false e = (value-balanced (binoidOf f) v, λ d. false≢true (sym e ∙ piece-valid v .1 d))

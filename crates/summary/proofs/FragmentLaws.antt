@@ -9,7 +9,7 @@ use borrow.Author.Needs.{needs}
 use Rattle.hedge.specs.Schema.{mostStates}
 use Rattle.lore.specs.Lore.{IsLore}
 use Rattle.pieces.specs.declared.Piece.{Piece}
-use Rattle.pieces.specs.Pieces.{mostTags, piecesLong, pieceAt, putPiece, lifted, pieces}
+use Rattle.pieces.specs.Pieces.{mostTags, piecesLong, pieceAt, putPiece, lifted, pieces, Counted}
 use Rattle.pieces.proofs.PieceLaws.{piece-same}
 use Rattle.template.specs.Order.{IsSound, reading}
 use Rattle.template.specs.declared.Reading.the-variants.{Sound, Bad}
@@ -35,8 +35,8 @@ use Rattle.summary.proofs.PackingLaws.{holds-packs}
 -- ---- the empty word in the arrays
 
 module _ (p : Piece) (values : List ℕ) (put : values ≡ putPiece (replicate piecesLong 0) 0 p) where
-  pub empty-holds : Holds (summaryOf (record { ends = 0; starts = 0 }) (replicate mostTags 0) values)
-  empty-holds = rw put (holds-none p)
+  pub empty-holds : Counted p → Holds (summaryOf (record { ends = 0; starts = 0 }) (replicate mostTags 0) values)
+  empty-holds c = rw put (holds-none p c)
 
   pub empty-first : pieceAt values 0 ≡ p
   empty-first = rw put (piece-same (replicate piecesLong 0) 0 p refl (omega arith))

@@ -2,17 +2,19 @@
 -- its refusal, is the limit of the join of the two forms. Assumes nothing.
 use mathlib.Core.Path.{_≡_, refl, sym, _∙_}
 use mathlib.Core.List.{List}
-use Prim.Native.Nat.{ℕ}
+use Prim.Native.Nat.{ℕ, _≤_}
+use native.Mathlib.Decide.{decLe}
+use native.Mathlib.Omega.{arith}
 use lib.ListN.{length}
 use borrow.Author.Needs.{needs}
 use Rattle.words.specs.Reader.{reduced, limit, join}
 use Rattle.words.proofs.LimitLaws.{Answers, limit-iff}
-use Rattle.pieces.specs.Pieces.{mostTags, piecesLong, lifted}
+use Rattle.pieces.specs.Pieces.{mostTags, piecesLong, pieceAt, lifted, Counted}
 use Rattle.template.specs.Order.{IsSound, reading}
 use Rattle.template.specs.declared.Reading.the-variants.{Sound, Bad}
 use Rattle.template.specs.declared.Shape.{Shape}
 use Rattle.template.proofs.ShapeLaws.{shape-sound}
-use Rattle.form.specs.Held.{summaryOf, formOf, lastOf, Holds}
+use Rattle.form.specs.Held.{tagCount, summaryOf, formOf, lastOf, Holds}
 use Rattle.form.specs.Steps.{Stepped, outcome, after-form}
 use Rattle.form.specs.declared.Counts.{Counts}
 use Rattle.form.specs.declared.Step.{Step}
@@ -34,7 +36,12 @@ use Rattle.summary.proofs.FragmentLaws.{taught-lore}
 
 pub holds-summary : (f : List ℕ) (s : Summary) → length (s .names) ≡ mostTags → length (s .values) ≡ piecesLong → SummaryUnder f s
     → Holds s
-holds-summary f s l m h = record { names-long = l; values-long = m; room = h .few; unused = h .unused }
+holds-summary f s l m h =
+    record { names-long = l; values-long = m; room = h .few; unused = h .unused; counted = λ k. at k (decLe k (tagCount (s .counts))) }
+  where
+    at : (k : ℕ) → Dec (k ≤ tagCount (s .counts)) → Counted (pieceAt (s .values) k)
+    at k (yes l) = h .within k l .1
+    at k (no l) = rw (h .unused .values-zero k (omega arith)) (omega arith)
 
 -- a reply that says why it refused
 

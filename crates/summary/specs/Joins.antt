@@ -27,7 +27,7 @@ SummaryUnder f s = IsSummary (nameCount f) (states f) s
 abbrev pub BothSummaries : List ℕ → Summary → Summary → Type 0
 BothSummaries f left right = IsSound f × SummaryUnder f left × SummaryUnder f right
 
--- the rules of joining on the tags and relations of two summaries
+-- the rules of joining on the tags and pieces of two summaries
 abbrev pub outcomeOf : List ℕ → Summary → Summary → Outcome Piece
 outcomeOf f left right = join (binoidOf f) (reduced (formOf left) (lastOf left)) (formOf right) (lastOf right)
 

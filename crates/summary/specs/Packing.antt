@@ -1,6 +1,6 @@
 -- Which structs are summaries, and the reduced form that one packs. Rules, section 6: its tags are 16 or fewer, its names below A, its
--- relations within the states below Q, and whatever place it does not use is 0; a struct that fails in any of these is no summary. That
--- of a refusal has zeros only (section 9).
+-- relations within the states below Q, their counts of outermost elements at most 2, and whatever place it does not use is 0; a struct that
+-- fails in any of these is no summary. That of a refusal has zeros only (section 9).
 use mathlib.Core.Path.{_≡_}
 use mathlib.Core.Bool.{Bool, true, _&&_, cond}
 use mathlib.Core.List.{List}

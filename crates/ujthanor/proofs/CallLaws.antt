@@ -12,7 +12,8 @@ use denote.Enum.Declared.{tagOf}
 use borrow.Author.Needs.{needs}
 use Rattle.words.specs.Reduced.{Stack}
 use Rattle.pieces.specs.declared.Piece.{Piece}
-use Rattle.pieces.specs.Pieces.{mostTags, piecesLong}
+use Rattle.pieces.specs.Pieces.{mostTags, piecesLong, AllCounted}
+use Rattle.pieces.proofs.PieceLaws.{none-counted}
 use Rattle.form.specs.Held.{tagCount}
 use Rattle.form.specs.declared.Summary.{Summary}
 use Rattle.worktable.specs.Packed.{rowWidth}
@@ -43,20 +44,20 @@ use Rattle.ujthanor.specs.Calls.{shortRow, CheckCalled, FragmentCalled, 
 
 -- ---- the summary of a reply with answer a
 
--- at most 16 tags, all its entries, and all zeros where the reply is a refusal
+-- at most 16 tags, 0, 1 or 2 outermost elements in each piece, and all zeros where the reply is a refusal
 pub record Made (a : ℕ) (s : Summary) : Type 0 where
   pub low : a ≤ 15
   pub few : tagCount (s .counts) ≤ mostTags
-  pub long : length (s .values) ≡ piecesLong
+  pub counted : AllCounted (s .values)
   pub zero : 1 ≤ a → s ≡ zeros
 
 packed-made : (s : Summary) (t : Stack Piece) (c : Piece) → Packs s t c → Made 0 s
 packed-made s t c packs =
-    record { low = omega arith; few = packs .holds .room; long = packs .holds .values-long; zero = λ h. absurd (omega (arith, h)) }
+    record { low = omega arith; few = packs .holds .room; counted = packs .holds .counted; zero = λ h. absurd (omega (arith, h)) }
 
 refused-made : (a : ℕ) (s : Summary) → a ≤ 15 → s ≡ zeros → Made a s
 unfolding zeros
-refused-made a s low e = record { low = low; few = rw e (omega arith); long = rw e refl; zero = λ _. e }
+refused-made a s low e = record { low = low; few = rw e (omega arith); counted = rw e (none-counted piecesLong); zero = λ _. e }
 
 answered-made : (f bytes : List ℕ) (a : FragmentAnswer) (s : Summary) → FragmentAnswers f bytes a s → Made (fragmentAnswer a) s
 answered-made f bytes fragment.Summarised s (_, (t, c, _, packs)) = packed-made s t c packs
@@ -79,12 +80,13 @@ pub join-made : (f : List ℕ) (left right : Summary) (r : JoinReply) → JoinSa
     → Made (joinAnswer (r .answer)) (r .summary)
 join-made f left right r says = joined-made f left right (r .answer) (r .summary) says
 
-pub fragment-few : (f bytes : List ℕ) (r : FragmentReply) → FragmentSays f bytes r → tagCount (r .summary .counts) ≤ mostTags
-fragment-few f bytes r says = fragment-made f bytes r says .few
+pub fragment-few : (f bytes : List ℕ) (r : FragmentReply) → FragmentSays f bytes r
+    → (tagCount (r .summary .counts) ≤ mostTags) × AllCounted (r .summary .values)
+fragment-few f bytes r says = let made = fragment-made f bytes r says in (made .few, made .counted)
 
 pub join-few : (f : List ℕ) (left right : Summary) (r : JoinReply) → JoinSays f left right r
-    → tagCount (r .summary .counts) ≤ mostTags
-join-few f left right r says = join-made f left right r says .few
+    → (tagCount (r .summary .counts) ≤ mostTags) × AllCounted (r .summary .values)
+join-few f left right r says = let made = join-made f left right r says in (made .few, made .counted)
 
 -- ---- a reply that is not answered 0: its summary is all zeros
 

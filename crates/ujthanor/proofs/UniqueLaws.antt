@@ -8,7 +8,7 @@ use native.Mathlib.Omega.{arith}
 use lib.IntN.{ℤ}
 use lib.ListN.{length}
 use Rattle.form.specs.declared.Summary.{Summary}
-use Rattle.worktable.specs.Packed.{rowWidth, nonterminalIn, summaryIn}
+use Rattle.worktable.specs.Packed.{rowWidth, nonterminalIn, aboveIn, summaryIn}
 use Rattle.summary.specs.declared.FragmentReply.{FragmentReply}
 use Rattle.summary.specs.declared.JoinReply.{JoinReply}
 use Rattle.summary.specs.declared.DepthReply.{DepthReply}
@@ -35,12 +35,13 @@ laid lay e p q = p ∙ ap lay e ∙ sym q
 -- ---- what a lent row stands for
 
 is-row : (row : List ℕ) → Dec (IsRow row)
-is-row row = both (ℕ-discrete (length row) rowWidth) (ℕ-discrete (nonterminalIn row) 0)
+is-row row = all (ℕ-discrete (length row) rowWidth) (ℕ-discrete (nonterminalIn row) 0) (ℕ-discrete (aboveIn row) 0)
   where
-    both : Dec (length row ≡ rowWidth) → Dec (nonterminalIn row ≡ 0) → Dec (IsRow row)
-    both (yes l) (yes z) = yes (l, z)
-    both (yes l) (no z) = no (λ (_, e). z e)
-    both (no l) d = no (λ (e, _). l e)
+    all : Dec (length row ≡ rowWidth) → Dec (nonterminalIn row ≡ 0) → Dec (aboveIn row ≡ 0) → Dec (IsRow row)
+    all (yes l) (yes z) (yes a) = yes (l, z, a)
+    all (yes l) (yes z) (no a) = no (λ (_, _, e). a e)
+    all (yes l) (no z) d = no (λ (_, e, _). z e)
+    all (no l) d c = no (λ (e, _, _). l e)
 
 pub stands-unique : (row : List ℕ) (s s′ : Summary) → StandsFor row s → StandsFor row s′ → s ≡ s′
 stands-unique row s s′ a b = by (is-row row)

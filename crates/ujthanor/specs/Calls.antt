@@ -1,5 +1,5 @@
 -- What the calls from C and Rust promise (Rules, sections 9 and 10): each is the promise of the call that it hands on, its reply laid out as
--- numbers and rows. A row lent for writing that has fewer than 20 entries is refused before all else, with 17 and number 0, and not written.
+-- numbers and rows. A row lent for writing that has fewer than 21 entries is refused before all else, with 17 and number 0, and not written.
 use mathlib.Core.Path.{_≡_}
 use mathlib.Core.List.{List}
 use Prim.Native.Nat.{ℕ, _≤_, _<_}

@@ -3,7 +3,7 @@
 ghost use mathlib.Core.Path.{_≡_};
 ghost use Prim.Native.Nat.{_≤_};
 ghost use lib.ListN.{length};
-ghost use Rattle.pieces.specs.Pieces.{mostTags};
+ghost use Rattle.pieces.specs.Pieces.{mostTags, AllCounted};
 ghost use Rattle.form.specs.Held.{tagCount};
 ghost use Rattle.worktable.specs.Packed.{rowWidth};
 ghost use Rattle.summary.specs.Packing.{zeros};
@@ -48,7 +48,7 @@ pub extern "C" fn ujthanor_page(file: &[u8], bytes: &[u8], number: &mut u64) -> 
 // Writes the row of a summary over the first entries.
 fn put_summary(row: &mut [u64], s: form::Summary)
     requires { ⌜ rowWidth ≤ length (now row) ⌝ }
-    requires { ⌜ tagCount (s .counts) ≤ mostTags ⌝ }
+    requires { ⌜ (tagCount (s .counts) ≤ mostTags) × AllCounted (s .values) ⌝ }
     ensures { λ r. ⌜ now (row .exit) ≡ written (now (row .entry)) s ⌝ }
 {
     let c = s.counts;
@@ -110,6 +110,9 @@ fn lent(row: &[u64]) -> form::Summary
         return no_summary();
     }
     if worktable::nonterminal(row) != 0 {
+        return no_summary();
+    }
+    if worktable::above(row) != 0 {
         return no_summary();
     }
     let mut names = [0u8; pieces::TAGS];

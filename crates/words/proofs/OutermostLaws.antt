@@ -10,8 +10,8 @@ use native.Mathlib.Decide.{decLt}
 use borrow.Author.Tests.{lt-ltb, le-ltb}
 use Rattle.words.specs.Tags.{Tag, start, end}
 use Rattle.words.specs.Binoid.{Binoid, Laws, Value, value-empty, value-element}
-use Rattle.words.specs.Outermost.{OneElement, several, atMostSeveral, outermost, Sides, beside}
-use Rattle.words.proofs.ValueLaws.{value-balanced, balanced-value, value-single}
+use Rattle.words.specs.Outermost.{OneElement, OutermostOf, several, atMostSeveral, outermost, Sides, beside}
+use Rattle.words.proofs.ValueLaws.{value-balanced, value-good, balanced-value, value-single}
 use Rattle.words.proofs.ReadLaws.{value-unique}
 
 -- ---- two binoids side by side
@@ -63,7 +63,7 @@ module _ (C D : Binoid) {H : Type 0} (S : Sides H (C .H) (D .H)) where
 
 -- ---- the number of outermost elements
 
-few : (n : ℕ) → n ≤ several → atMostSeveral n ≡ n
+pub few : (n : ℕ) → n ≤ several → atMostSeveral n ≡ n
 unfolding atMostSeveral
 few n h =
     elim (decLt n several) [
@@ -71,12 +71,12 @@ few n h =
       | no l ↦ rw (le-ltb n several (omega (arith, l))) (omega (arith, h, l))
     ]
 
-many : (n : ℕ) → several ≤ n → atMostSeveral n ≡ several
+pub many : (n : ℕ) → several ≤ n → atMostSeveral n ≡ several
 unfolding atMostSeveral
 many n h = rw (le-ltb n several h)
 
 -- what is already too many may be forgotten
-sum-left : (m n : ℕ) → atMostSeveral (atMostSeveral m + n) ≡ atMostSeveral (m + n)
+pub sum-left : (m n : ℕ) → atMostSeveral (atMostSeveral m + n) ≡ atMostSeveral (m + n)
 sum-left m n =
     elim (decLt m several) [
       | yes l ↦ rw (few m (omega (arith, l)))
@@ -84,7 +84,7 @@ sum-left m n =
           rw (many m (omega (arith, l)), many (several + n) (omega arith), many (m + n) (omega (arith, l)))
     ]
 
-sum-right : (m n : ℕ) → atMostSeveral (m + atMostSeveral n) ≡ atMostSeveral (m + n)
+pub sum-right : (m n : ℕ) → atMostSeveral (m + atMostSeveral n) ≡ atMostSeveral (m + n)
 sum-right m n = ap atMostSeveral (omega arith) ∙ sum-left n m ∙ ap atMostSeveral (omega arith)
 
 pub outermost-few : (n : ℕ) → atMostSeveral n ≤ several
@@ -94,7 +94,7 @@ outermost-few n =
       | no l ↦ rw (many n (omega (arith, l))) (omega arith)
     ]
 
-pub outermost-laws : Laws outermost
+abbrev pub outermost-laws : Laws outermost
 outermost-laws =
     record {
       Good = λ n. n ≤ several;
@@ -130,3 +130,6 @@ outermost-one {w} {n} v = (to v, from v)
     from : {w : List Tag} {n : ℕ} → Value outermost w n → OneElement w → n ≡ 1
     from v (a, u, b, e) =
         value-unique outermost outermost-laws (rw (← e) v) (value-single outermost outermost-laws {a = a} (balanced-value outermost b .1))
+
+pub outermost-of : {w : List Tag} {n : ℕ} → Value outermost w n → OutermostOf w n
+outermost-of v = (value-good outermost outermost-laws v, outermost-none v, outermost-one v)

@@ -1,8 +1,10 @@
--- How many outermost elements a balanced word has, and two binoids side by side, so that one value tells two things of a word.
+-- How many outermost elements a balanced word has, and two binoids side by side, so that one value tells two things of a word. Rules, sections
+-- 3 and 5: a page has exactly one, and each relation carries the count of its string's: 0, 1, or 2 for more.
 use mathlib.Core.Path.{_≡_}
+use mathlib.Core.Logic.{_↔_}
 use mathlib.Core.Bool.{cond}
 use mathlib.Core.List.{List, [], _∷_, _++_}
-use Prim.Native.Nat.{ℕ, _+_}
+use Prim.Native.Nat.{ℕ, _+_, _≤_}
 use lib.Dec.{ltb}
 use Rattle.words.specs.Tags.{Tag, start, end}
 use Rattle.words.specs.Balance.{Balanced}
@@ -12,14 +14,18 @@ use Rattle.words.specs.Binoid.{Binoid}
 abbrev pub OneElement : List Tag → Type 0
 OneElement w = (a : ℕ) × (u : List Tag) × Balanced u × (w ≡ start a ∷ (u ++ (end a ∷ [])))
 
--- 0, 1, or 2 for more
+-- 2 stands for 2 and more
 abbrev pub several : ℕ
 several = 2
 
 unfoldable pub atMostSeveral : ℕ → ℕ
 atMostSeveral n = cond (ltb n several) n several
 
--- the numbers of outermost elements: none, those of two words added up, and one of whatever is inside
+-- the count of a balanced word's outermost elements: 0 of the empty word, 1 of a single element, and of any other word 2
+abbrev pub OutermostOf : List Tag → ℕ → Type 0
+OutermostOf w n = (n ≤ several) × ((n ≡ 0) ↔ (w ≡ [])) × ((n ≡ 1) ↔ OneElement w)
+
+-- the counts as a binoid: none, those of two words added up, and one of whatever is inside
 abbrev pub outermost : Binoid
 outermost = record { H = ℕ; unit = 0; compose = λ m n. atMostSeveral (m + n); wrap = λ a n. 1 }
 

@@ -1,4 +1,4 @@
-pub mod ByteLaws
+pub mod DigitLaws
 pub mod PackedLaws
 pub mod RowLaws
 pub mod StoreLaws

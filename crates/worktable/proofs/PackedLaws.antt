@@ -1,53 +1,46 @@
 -- Packing and unpacking (specs/Packed.antt). What was packed is read back: the first entry by its digits to the base 256, a name as a byte
--- of its entry, the pieces as they stand; together that is the whole summary. Assumes nothing.
-use mathlib.Core.Path.{_≡_, refl, sym, ap, _∙_}
-use mathlib.Core.List.{List}
-use Prim.Native.Nat.{ℕ, zero, suc, _+_, _-_, _*_, _/_, _%_, _^_, _≤_, _<_}
+-- of its entry, a piece as its relation's entry and two bits of the last; together that is the whole summary. Assumes nothing.
+use mathlib.Core.Path.{_≡_, refl, sym, ap, ap₂, _∙_}
+use mathlib.Core.List.{List, [], _∷_, _++_}
+use Prim.Native.Nat.{ℕ, suc, _+_, _-_, _*_, _/_, _%_, _^_, _≤_, _<_}
 use native.Mathlib.Decide.{decLt}
-use native.Mathlib.Nat.{div-div-eq-div-mul}
+use native.Mathlib.Nat.{div-eq-of-lt}
 use native.Mathlib.Omega.{arith}
-use lib.ListN.{length, getD, drop, take}
-use lib.Pow.{pow-add}
+use lib.ListN.{length, length-append, getD, List·getD-append}
 use lib.Seq.{ext-getD}
-use Rattle.pieces.specs.Pieces.{mostTags, piecesLong}
+use Rattle.pieces.specs.Pieces.{mostTags, mostPieces, piecesLong, piece, pieceAt, listOf, AllCounted}
+use Rattle.pieces.proofs.PieceLaws as pieces
+use Rattle.pieces.proofs.PieceLaws.{pieces-ext, listed-piece}
 use Rattle.form.specs.Held.{formOf, lastOf, Holds}
 use Rattle.form.specs.declared.Summary.{Summary}
-use Rattle.worktable.specs.Packed.{rowWidth, bytesIn, packed, nonterminalIn, endsIn, startsIn, nameIn, namesIn, summaryIn, RowOf}
-use Rattle.worktable.proofs.ByteLaws.{bytes-cons, names-length}
+use Rattle.worktable.specs.Packed.{rowHead, countsAt, rowWidth, listed, relationsIn, outermostIn, packed}
+use Rattle.worktable.specs.Packed.{nonterminalIn, endsIn, startsIn, nameIn, pieceIn, aboveIn, summaryIn, RowOf}
+use Rattle.worktable.proofs.DigitLaws.{listed-length, listed-at, digit-at, digits-small, relationAt}
 
--- ---- names
-
--- name i of those in a number is its byte i
-pub byte-at : (names : List ℕ) → ((k : ℕ) → getD names k 0 < 256) → (k i n : ℕ) → i < n
-    → bytesIn (take n (drop k names)) / 2 ^ (i * 8) % 256 ≡ getD names (k + i) 0
-byte-at names small k i zero h = absurd (omega arith)
-byte-at names small k zero (suc n) h =
-    let z : k + 0 ≡ k = omega arith in
-    rw (z, bytes-cons names k n) (omega (arith, small k))
-byte-at names small k (suc i) (suc n) h =
-    let b = getD names k 0 in
-    let rest = bytesIn (take n (drop (suc k) names)) in
-    let z : k + suc i ≡ suc k + i = omega arith in
-    let e : suc i * 8 ≡ 8 + i * 8 = omega arith in
-    let q : (b + 256 * rest) / 256 ≡ rest = omega (arith, small k) in
-    rw (z, e, bytes-cons names k n, pow-add, ← div-div-eq-div-mul, q) (byte-at names small (suc k) i n (omega arith))
-
-pub names-at : (row : List ℕ) (k n i : ℕ) → i < n → getD (namesIn row k n) i 0 ≡ nameIn row (k + i)
-unfolding namesIn
-names-at row k zero i h = absurd (omega arith)
-names-at row k (suc n) zero h = let z : k + 0 ≡ k = omega arith in rw z
-names-at row k (suc n) (suc i) h = let z : k + suc i ≡ suc k + i = omega arith in rw z (names-at row (suc k) n i (omega arith))
+-- the entry behind a list
+getD-at : (l : List ℕ) (v n : ℕ) → length l ≡ n → getD (l ++ (v ∷ [])) n 0 ≡ v
+getD-at [] v n e = rw (← e)
+getD-at (x ∷ l) v n e = rw (← e) (getD-at l v (length l) refl)
 
 -- ---- a packed row
 
 module _ (x : ℕ) (s : Summary) where
-  pub packed-values : drop 3 (packed x s) ≡ s .values
+  packed-relations : (k : ℕ) → k < mostPieces → getD (packed x s) (rowHead + k) 0 ≡ pieceAt (s .values) k .relation
   unfolding packed
-  packed-values = refl
+  packed-relations k h =
+      let z : rowHead + k ≡ suc (suc (suc k)) = omega arith in
+      let long = listed-length (relationAt (s .values)) 0 mostPieces in
+      rw z
+      (List·getD-append (relationsIn (s .values)) (outermostIn (s .values) ∷ []) 0 k (omega (arith, long))
+      ∙ listed-at (relationAt (s .values)) 0 mostPieces k h ∙ ap (relationAt (s .values)) (omega arith))
 
-  pub packed-length : length (s .values) ≡ piecesLong → length (packed x s) ≡ rowWidth
+  packed-last : getD (packed x s) countsAt 0 ≡ outermostIn (s .values)
   unfolding packed
-  packed-length l = omega (arith, l)
+  packed-last = getD-at (relationsIn (s .values)) (outermostIn (s .values)) mostPieces (listed-length (relationAt (s .values)) 0 mostPieces)
+
+  pub packed-length : length (packed x s) ≡ rowWidth
+  unfolding packed
+  packed-length = let long = listed-length (relationAt (s .values)) 0 mostPieces in rw length-append (omega (arith, long))
 
   pub packed-nonterminal : x < 256 → nonterminalIn (packed x s) ≡ x
   unfolding packed
@@ -71,22 +64,42 @@ module _ (x : ℕ) (s : Summary) where
         at (yes l) =
             let p : 1 + k / 8 ≡ 1 = omega arith in
             let q : k % 8 ≡ k = omega arith in
-            rw (p, q) (byte-at (s .names) bytes 0 k 8 l ∙ ap (λ (i : ℕ). getD (s .names) i 0) (omega arith))
+            rw (p, q) (digit-at 8 (λ i. getD (s .names) i 0) bytes 0 k 8 l ∙ ap (λ (i : ℕ). getD (s .names) i 0) (omega arith))
         at (no l) =
             let p : 1 + k / 8 ≡ 2 = omega arith in
             let q : k % 8 ≡ k - 8 = omega arith in
-            rw (p, q) (byte-at (s .names) bytes 8 (k - 8) 8 (omega arith) ∙ ap (λ (i : ℕ). getD (s .names) i 0) (omega arith))
+            rw (p, q) (digit-at 8 (λ i. getD (s .names) i 0) bytes 8 (k - 8) 8 (omega arith) ∙ ap (λ (i : ℕ). getD (s .names) i 0) (omega arith))
 
-    packed-name-at : (i : ℕ) → i < mostTags → getD (namesIn (packed x s) 0 mostTags) i 0 ≡ getD (s .names) i 0
-    packed-name-at i h =
-        let z : 0 + i ≡ i = omega arith in
-        names-at (packed x s) 0 mostTags i h ∙ ap (nameIn (packed x s)) z ∙ packed-name i h
-
-    packed-names : length (s .names) ≡ mostTags → namesIn (packed x s) 0 mostTags ≡ s .names
+    packed-names : length (s .names) ≡ mostTags → listed (nameIn (packed x s)) 0 mostTags ≡ s .names
     packed-names l =
-        ext-getD 0 (namesIn (packed x s) 0 mostTags) (s .names) (names-length (packed x s) 0 mostTags ∙ sym l)
-        (λ i h. packed-name-at i (omega (arith, names-length (packed x s) 0 mostTags)))
+        let long = listed-length (nameIn (packed x s)) 0 mostTags in
+        ext-getD 0 (listed (nameIn (packed x s)) 0 mostTags) (s .names) (long ∙ sym l)
+        (λ i h.
+        let z : 0 + i ≡ i = omega arith in
+        listed-at (nameIn (packed x s)) 0 mostTags i (omega (arith, long)) ∙ ap (nameIn (packed x s)) z ∙ packed-name i (omega (arith, long)))
 
+  pub packed-above : AllCounted (s .values) → aboveIn (packed x s) ≡ 0
+  packed-above all =
+      let small : (i : ℕ) → pieceAt (s .values) i .outermost < 4 = λ i. omega (arith, all i) in
+      rw packed-last (div-eq-of-lt (digits-small 2 (λ i. pieceAt (s .values) i .outermost) small 0 mostPieces))
+
+  packed-piece : AllCounted (s .values) → (k : ℕ) → k < mostPieces → pieceIn (packed x s) k ≡ pieceAt (s .values) k
+  unfolding pieceIn
+  packed-piece all k h =
+      let small : (i : ℕ) → pieceAt (s .values) i .outermost < 4 = λ i. omega (arith, all i) in
+      let z : 0 + k ≡ k = omega arith in
+      ap₂ piece (packed-relations k h)
+      (rw packed-last
+      (digit-at 2 (λ i. pieceAt (s .values) i .outermost) small 0 k mostPieces h ∙ ap (λ (i : ℕ). pieceAt (s .values) i .outermost) z))
+
+  packed-values : AllCounted (s .values) → length (s .values) ≡ piecesLong → listOf (pieceIn (packed x s)) 0 mostPieces ≡ s .values
+  packed-values all l =
+      pieces-ext (listOf (pieceIn (packed x s)) 0 mostPieces) (s .values) (pieces.listed-length (pieceIn (packed x s)) 0 mostPieces) l
+      (λ k h.
+      let z : 0 + k ≡ k = omega arith in
+      listed-piece (pieceIn (packed x s)) 0 mostPieces k (omega arith) ∙ ap (pieceIn (packed x s)) z ∙ packed-piece all k (omega arith))
+
+  module _ (bytes : (k : ℕ) → getD (s .names) k 0 < 256) where
     -- the summary is read back, and is what the row packs
     module _ (small : x < 256) (holds : Holds s) where
       pub packed-summary : summaryIn (packed x s) ≡ s
@@ -94,8 +107,8 @@ module _ (x : ℕ) (s : Summary) where
           let few : s .counts .ends ≤ mostTags = omega (arith, holds .room) in
           λ i. record {
             counts = record { ends = packed-ends small few i; starts = packed-starts small few i };
-            names = packed-names (holds .names-long) i;
-            values = packed-values i;
+            names = packed-names bytes (holds .names-long) i;
+            values = packed-values (holds .counted) (holds .values-long) i;
           }
 
       pub packed-row : RowOf (packed x s) x (formOf s) (lastOf s)

@@ -13,7 +13,7 @@ use Rattle.worktable.proofs.PackedLaws.{packed-length, packed-nontermin
 
 module _ (row : List ℕ) (x : ℕ) (form : Stack Piece) (last : Piece) (r : RowOf row x form last) where
   pub row-length : length row ≡ rowWidth
-  row-length = ap length (r .row-is) ∙ packed-length x (r .summary) (r .holds .values-long)
+  row-length = ap length (r .row-is) ∙ packed-length x (r .summary)
 
   pub row-nonterminal : nonterminalIn row ≡ x
   row-nonterminal = ap (λ (l : List ℕ). nonterminalIn l) (r .row-is) ∙ packed-nonterminal x (r .summary) (r .small)

@@ -1,21 +1,28 @@
 -- A worktable row as a nonterminal and its summary, and the limits of the table. Rules, section 10: the first entry has the nonterminal and
--- the two counts, the next two the tag names, a byte each, then come the 17 relations; what is not used is 0.
+-- the two counts, the next two the tag names, a byte each, then come the 17 relations, and in the last entry their counts of outermost
+-- elements, two bits each; what is not used is 0.
 use mathlib.Core.Path.{_≡_}
-use mathlib.Core.List.{List, [], _∷_}
+use mathlib.Core.List.{List, [], _∷_, _++_}
 use Prim.Native.Nat.{ℕ, zero, suc, _+_, _*_, _/_, _%_, _^_, _<_}
-use lib.ListN.{getD, take, drop}
+use lib.ListN.{getD}
 use Rattle.words.specs.Reduced.{Stack}
 use Rattle.pieces.specs.declared.Piece.{Piece}
-use Rattle.pieces.specs.Pieces.{mostTags}
+use Rattle.pieces.specs.Pieces.{mostTags, mostPieces, piece, pieceAt, listOf}
 use Rattle.form.specs.Held.{summaryOf, formOf, lastOf, Holds}
 use Rattle.form.specs.declared.Summary.{Summary}
 use Rattle.trees.specs.Events.{Pair}
 
 -- ---- limits
 
--- the entries of a row, the most images, and the entries of a worktable
+-- the entries before the relations, the entry behind them, and all entries of a row; the most images, and the entries of a worktable
+abbrev pub rowHead : ℕ
+rowHead = 3
+
+abbrev pub countsAt : ℕ
+countsAt = rowHead + mostPieces
+
 abbrev pub rowWidth : ℕ
-rowWidth = 20
+rowWidth = suc countsAt
 
 abbrev pub mostImages : ℕ
 mostImages = 256
@@ -25,18 +32,33 @@ tableLong = mostImages * rowWidth
 
 -- ---- a row
 
--- bytes in one entry, first lowest
-unfoldable pub bytesIn : List ℕ → ℕ
-bytesIn [] = 0
-bytesIn (b ∷ bs) = b + 256 * bytesIn bs
+-- n numbers from the k-th on, as a list, and in one entry, w bits each, the first lowest
+unfoldable pub listed : (ℕ → ℕ) → ℕ → ℕ → List ℕ
+listed at k zero = []
+listed at k (suc n) = at k ∷ listed at (suc k) n
+
+unfoldable pub digitsIn : ℕ → (ℕ → ℕ) → ℕ → ℕ → ℕ
+digitsIn w at k zero = 0
+digitsIn w at k (suc n) = at k + 2 ^ w * digitsIn w at (suc k) n
+
+-- eight names from the k-th on, a byte each
+abbrev pub eightNames : List ℕ → ℕ → ℕ
+eightNames names k = digitsIn 8 (λ i. getD names i 0) k 8
+
+abbrev pub relationsIn : List ℕ → List ℕ
+relationsIn values = listed (λ k. pieceAt values k .relation) 0 mostPieces
+
+-- the counts of outermost elements, two bits each
+abbrev pub outermostIn : List ℕ → ℕ
+outermostIn values = digitsIn 2 (λ k. pieceAt values k .outermost) 0 mostPieces
 
 -- the row of the nonterminal x with this summary
 unfoldable pub packed : ℕ → Summary → List ℕ
 packed x s =
     (x + 256 * s .counts .ends + 65536 * s .counts .starts)
-    ∷ bytesIn (take 8 (s .names)) ∷ bytesIn (take 8 (drop 8 (s .names))) ∷ s .values
+    ∷ eightNames (s .names) 0 ∷ eightNames (s .names) 8 ∷ (relationsIn (s .values) ++ (outermostIn (s .values) ∷ []))
 
--- back: the nonterminal, the ends, the starts, name k, all names
+-- back: the nonterminal, the ends, the starts, name k, piece k
 abbrev pub nonterminalIn : List ℕ → ℕ
 nonterminalIn row = getD row 0 0 % 256
 
@@ -49,13 +71,17 @@ startsIn row = getD row 0 0 / 65536
 unfoldable pub nameIn : List ℕ → ℕ → ℕ
 nameIn row k = getD row (1 + k / 8) 0 / 2 ^ (k % 8 * 8) % 256
 
-unfoldable pub namesIn : List ℕ → ℕ → ℕ → List ℕ
-namesIn row k zero = []
-namesIn row k (suc n) = nameIn row k ∷ namesIn row (suc k) n
+unfoldable pub pieceIn : List ℕ → ℕ → Piece
+pieceIn row k = piece (getD row (rowHead + k) 0) (getD row countsAt 0 / 2 ^ (k * 2) % 4)
+
+-- what stands in the last entry above the counts of all pieces
+abbrev pub aboveIn : List ℕ → ℕ
+aboveIn row = getD row countsAt 0 / 2 ^ (mostPieces * 2)
 
 -- the summary that a row shows
 abbrev pub summaryIn : List ℕ → Summary
-summaryIn row = summaryOf (record { ends = endsIn row; starts = startsIn row }) (namesIn row 0 mostTags) (drop 3 row)
+summaryIn row =
+    summaryOf (record { ends = endsIn row; starts = startsIn row }) (listed (nameIn row) 0 mostTags) (listOf (pieceIn row) 0 mostPieces)
 
 -- the row packs the nonterminal x with the reduced form of these tags and this last piece
 pub record RowOf (row : List ℕ) (x : ℕ) (form : Stack Piece) (last : Piece) : Type 0 where

@@ -1,5 +1,6 @@
 -- The arrays hold the empty word; what reading finds is answered, and what it leaves in the arrays is packed. Assumes nothing.
 use mathlib.Core.Path.{_∙_}
+use native.Mathlib.Omega.{arith}
 use Rattle.summary.proofs.FragmentLaws.{empty-holds, empty-first, finds-turns}
 use Rattle.summary.proofs.summarise.Statement.{statement}
 use Rattle.summary.proofs.summarise.Tie as tie
@@ -14,7 +15,7 @@ read-bytes-requires : tie.Need-read-bytes-requires
 read-bytes-requires c κs = (
   search finds-turns,
   (
-    empty-holds _ _ (c .before .before .put-piece .ensures),
+    empty-holds _ _ (c .before .before .put-piece .ensures) (rw (c .before .before .before .empty .ensures) (omega arith)),
     empty-first _ _ (c .before .before .put-piece .ensures) ∙ c .before .before .before .empty .ensures,
   ),
 )

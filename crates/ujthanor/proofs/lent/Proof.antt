@@ -1,4 +1,5 @@
--- A row of another length, or with a nonterminal part, stands for no summary; any other is unpacked (LentLaws). Assumes nothing.
+-- A row of another length, with a nonterminal part, or with something above its last counts stands for no summary; any other is unpacked
+-- (LentLaws). Assumes nothing.
 use Rattle.ujthanor.proofs.LentLaws.{lends}
 use Rattle.ujthanor.proofs.lent.Statement.{statement}
 use Rattle.ujthanor.proofs.lent.Tie as tie
@@ -18,11 +19,20 @@ no-summary-requires-2 c κs = search lends
 returns-2 : tie.Need-returns-2
 returns-2 c = search lends
 
-unpack-requires : tie.Need-unpack-requires
-unpack-requires c κs = search lends
+above-requires : tie.Need-above-requires
+above-requires c κs = search lends
+
+no-summary-requires-3 : tie.Need-no-summary-requires-3
+no-summary-requires-3 c κs = search lends
 
 returns-3 : tie.Need-returns-3
 returns-3 c = search lends
+
+unpack-requires : tie.Need-unpack-requires
+unpack-requires c κs = search lends
+
+returns-4 : tie.Need-returns-4
+returns-4 c = search lends
 
 pub lent-spec : {M : Type 1} → statement M
 lent-spec =
@@ -33,5 +43,8 @@ lent-spec =
     nonterminal-requires
     no-summary-requires-2
     returns-2
+    above-requires
+    no-summary-requires-3
+    returns-3
     unpack-requires
-    returns-3)
+    returns-4)

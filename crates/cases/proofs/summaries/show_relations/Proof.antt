@@ -1,24 +1,21 @@
--- The loop ends with its 16 turns; it makes no claim about what is printed. Assumes nothing.
+-- The loop ends with its 17 turns; it makes no claim about what is printed. Assumes nothing.
 use Prim.Native.Nat.{_≤_, _-_}
 use borrow.Author.Needs.{needs}
-use Rattle.pieces.specs.Pieces.{mostTags}
+use Rattle.pieces.specs.Pieces.{mostPieces}
 use Rattle.cases.proofs.summaries.show_relations.Statement.{statement}
 use Rattle.cases.proofs.summaries.show_relations.Tie as tie
 
 abbrev Inv-loop : tie.InvT-loop
-Inv-loop relations k₀ k = k ≤ mostTags
+Inv-loop values k₀ k = k ≤ mostPieces
 
 abbrev μ-loop : tie.MeasureT-loop
-μ-loop relations k₀ k = mostTags - k
+μ-loop values k₀ k = mostPieces - k
 
 loop-holds : tie.Need-loop-holds Inv-loop μ-loop
 loop-holds c = search needs
 
-mul-word : tie.Need-mul-word Inv-loop μ-loop
-mul-word c = search needs
-
-array-read-word : tie.Need-array-read-word Inv-loop μ-loop
-array-read-word c = search needs
+piece-at-requires : tie.Need-piece-at-requires Inv-loop μ-loop
+piece-at-requires c κs = search needs
 
 word-requires : tie.Need-word-requires Inv-loop μ-loop
 word-requires c κs = search needs
@@ -32,12 +29,6 @@ loop-less c = search needs
 loop-again : tie.Need-loop-again Inv-loop μ-loop
 loop-again c = search needs
 
-array-read-last-word : tie.Need-array-read-last-word Inv-loop μ-loop
-array-read-last-word c = search needs
-
-last-word-requires : tie.Need-last-word-requires Inv-loop μ-loop
-last-word-requires c κs = search needs
-
 returns : tie.Need-returns Inv-loop μ-loop
 returns c = search needs
 
@@ -48,12 +39,9 @@ show-relations-spec =
     Inv-loop
     μ-loop
     loop-holds
-    mul-word
-    array-read-word
+    piece-at-requires
     word-requires
     add-k
     loop-less
     loop-again
-    array-read-last-word
-    last-word-requires
     returns)

@@ -6,10 +6,10 @@ use Rattle.cases.proofs.summaries.show_summary.Statement.{statement}
 use Rattle.cases.proofs.summaries.show_summary.Tie as tie
 
 abbrev Inv-loop : tie.InvT-loop
-Inv-loop names relations k₀ k = k ≤ mostTags
+Inv-loop names values k₀ k = k ≤ mostTags
 
 abbrev μ-loop : tie.MeasureT-loop
-μ-loop names relations k₀ k = mostTags - k
+μ-loop names values k₀ k = mostTags - k
 
 word-requires : tie.Need-word-requires Inv-loop μ-loop
 word-requires c κs = search needs
@@ -41,6 +41,9 @@ loop-again c = search needs
 show-relations-requires : tie.Need-show-relations-requires Inv-loop μ-loop
 show-relations-requires c κs = search needs
 
+show-outermost-requires : tie.Need-show-outermost-requires Inv-loop μ-loop
+show-outermost-requires c κs = search needs
+
 returns : tie.Need-returns Inv-loop μ-loop
 returns c = search needs
 
@@ -60,4 +63,5 @@ show-summary-spec =
     loop-less
     loop-again
     show-relations-requires
+    show-outermost-requires
     returns)
