@@ -1,4 +1,4 @@
-/* From templates to verdict: checks a template set, reads three pages, puts a page together from two cached fragments, and splits a rule
+/* From templates to verdict: checks a template set, reads four pages, puts a page together from two cached fragments, and splits a rule
  * that is longer than two symbols.
  *
  *     cc -Iinclude examples/verdict.c target/staticlib/libujthanor.a -o target/verdict && target/verdict
@@ -66,7 +66,9 @@ int main(void) {
 
     page("<a><b></b></a>", (const uint8_t[]){0, 1, 33, 32}, 4);
     page("<a></b>", (const uint8_t[]){0, 33}, 2);
-    page("<b></b><b></b>", (const uint8_t[]){1, 33, 1, 33}, 4);
+    /* 14 for want of a b, and for two elements side by side, of which the schema alone would take both */
+    page("<a></a>", (const uint8_t[]){0, 32}, 2);
+    page("<a></a><b></b>", (const uint8_t[]){0, 32, 1, 33}, 4);
 
     /* <a><b> from one cache, </b></a> from another */
     uint64_t head[UJTHANOR_ROW], tail[UJTHANOR_ROW], whole[UJTHANOR_ROW], number;
@@ -76,9 +78,9 @@ int main(void) {
     ujthanor_net_depth(K, sizeof K, head, UJTHANOR_ROW, &number, &depth);
     printf("head: net depth %d\n", depth);
     uint32_t answer = ujthanor_join(K, sizeof K, head, UJTHANOR_ROW, tail, UJTHANOR_ROW, whole, UJTHANOR_ROW, &number);
-    printf("head and tail: answer %u, %s, relation %llu\n", answer, whole[0] == 0 ? "no tags left" : "tags left",
-           (unsigned long long)whole[3]);
-    answer = ujthanor_join(K, sizeof K, tail, UJTHANOR_ROW, head, 19, whole, UJTHANOR_ROW, &number);
+    printf("head and tail: answer %u, %s, relation %llu, outermost elements %llu\n", answer, whole[0] == 0 ? "no tags left" : "tags left",
+           (unsigned long long)whole[3], (unsigned long long)whole[UJTHANOR_ROW - 1]);
+    answer = ujthanor_join(K, sizeof K, tail, UJTHANOR_ROW, head, UJTHANOR_ROW - 1, whole, UJTHANOR_ROW, &number);
     printf("a row cut short: answer %u\n", answer);
 
     split(LONG, sizeof LONG);

@@ -2,13 +2,14 @@
  *
  *   ujthanor_check       is every page that a template set can produce valid under its schema?
  *   ujthanor_page        is this page valid?
- *   ujthanor_fragment    what is the summary of this fragment? (20 numbers, which a cache can keep)
+ *   ujthanor_fragment    what is the summary of this fragment? (21 numbers, which a cache can keep)
  *   ujthanor_join        what is the summary of two fragments laid end to end?
  *   ujthanor_net_depth   how many more elements does a summarised fragment open than it closes?
  *   ujthanor_split       what is the ordinary template file of templates whose rules have up to 12 symbols?
  *
- * A page or fragment is a run of tags, one byte each: byte a is the start tag of element a, byte 32 + a its end tag. A template file holds
- * a template set and its schema in at most 1,560 bytes. docs/RULES.md has the rules: section 4 the layout of a template file, sections 6 to
+ * A page or fragment is a run of tags, one byte each: byte a is the start tag of element a, byte 32 + a its end tag. A page is valid when
+ * its tags match, the schema derives it, and it has exactly one outermost element, as an XML document has. A template file holds a template
+ * set and its schema in at most 1,560 bytes. docs/RULES.md has the rules: section 4 the layout of a template file, sections 6 to
  * 8 summaries, joining and rounds, section 9 the answers, section 13 long rules. examples/verdict.c shows every call.
  *
  * Link with libujthanor.a (`rt staticlib ujthanor`; x86-64). Every call ends, whatever the bytes are. No call allocates, prints, or keeps
@@ -46,12 +47,15 @@ extern "C" {
 
 /* Rises by one whenever a public layout changes: a summary's row, the worktable, the template file, or the numbers of the answers. Store it
  * with rows that are kept, and make those anew that were stored with another. A new call does not raise it, nor do the new answers that only
- * that call gives: whatever was there before still means the same. */
-#define UJTHANOR_LAYOUT 1
+ * that call gives: whatever was there before still means the same.
+ *
+ * In layout 1 a row had no entry of counts. A caller built with it lends a table and a row that are now too short: they are answered with 9
+ * and 17, or with 15 where the row is read, and never written past their end. Its stored rows must be made anew. */
+#define UJTHANOR_LAYOUT 2
 
 enum {
-    UJTHANOR_TABLE = 5120,   /* entries of a worktable */
-    UJTHANOR_ROW = 20,       /* entries of a summary's row */
+    UJTHANOR_TABLE = 5376,   /* entries of a worktable */
+    UJTHANOR_ROW = 21,       /* entries of a summary's row */
     UJTHANOR_BUDGET = 257,   /* the largest budget; with it a check never answers 5 */
     UJTHANOR_LONGEST = 1560, /* bytes of the longest template file; an output of so many is never too short */
     UJTHANOR_STACK = 16384   /* bytes of stack that suffice for any call */
@@ -71,15 +75,17 @@ enum ujthanor_answer {
     UJTHANOR_BAD_FILE = 7,        /* any call: the template file (split: the file of long rules) is not sound [the place of its first
                                      fault] */
     UJTHANOR_BAD_BUDGET = 8,      /* check: the budget is not from 1 to 257 [0] */
-    UJTHANOR_SHORT_TABLE = 9,     /* check: the worktable has fewer than 5,120 entries [0] */
+    UJTHANOR_SHORT_TABLE = 9,     /* check: the worktable has fewer than 5,376 entries [0] */
     UJTHANOR_NOT_A_TAG = 10,      /* page, fragment: a byte that is no tag of the file's names [its place] */
     UJTHANOR_MISMATCH = 11,       /* page, fragment: an end tag that does not match its start tag [its place]; join: the same [0] */
     UJTHANOR_TOO_DEEP = 12,       /* page, fragment: the tag that leaves more than 16 unmatched [its place]; join: so many are left [0] */
     UJTHANOR_UNMATCHED = 13,      /* page: it ends with tags unmatched [0] */
-    UJTHANOR_NOT_DERIVED = 14,    /* page: all its tags match, but the schema does not derive it [0] */
-    UJTHANOR_NO_SUMMARY = 15,     /* join, net depth: a lent row is no summary under the file [0] */
+    UJTHANOR_NOT_DERIVED = 14,    /* page: all its tags match, but the schema does not derive it, or it has not exactly one outermost
+                                     element: none, or several side by side [0] */
+    UJTHANOR_NO_SUMMARY = 15,     /* join, net depth: a lent row is no summary under the file: its tags, a relation, a count, or a place
+                                     that it does not use [0] */
     UJTHANOR_TOO_MANY = 16,       /* split: there would be more than 64 nonterminals or more than 256 rules [0] */
-    UJTHANOR_SHORT_ROW = 17,      /* fragment, join: the row to be written has fewer than 20 entries [0] */
+    UJTHANOR_SHORT_ROW = 17,      /* fragment, join: the row to be written has fewer than 21 entries [0] */
     UJTHANOR_SHORT_OUTPUT = 17    /* split: the output has fewer bytes than the file to be written [0] */
 };
 
@@ -90,8 +96,8 @@ enum ujthanor_answer {
  * 0 means that every page the set can produce is valid, however deep it nests; 1 and 2 that it can produce one that is not; 3, 4 and 5
  * decide nothing.
  *
- * The worktable: after 0 the images' rows, ascending, then zeros up to entry 5,120; after 1 to 5 zeros up to entry 5,120; after 6 to 9 as
- * it was. Entries past 5,120 never change. It need not be cleared before. */
+ * The worktable: after 0 the images' rows, ascending, then zeros up to entry 5,376; after 1 to 5 zeros up to entry 5,376; after 6 to 9 as
+ * it was. Entries past 5,376 never change. It need not be cleared before. */
 uint32_t ujthanor_check(const uint8_t *file, size_t file_len, uint64_t *table, size_t table_len, size_t budget, uint64_t *number,
                         uint64_t *images);
 
@@ -101,15 +107,15 @@ uint32_t ujthanor_check(const uint8_t *file, size_t file_len, uint64_t *table, s
  * deep; where it nests deeper it gets 12, and no other answer. */
 uint32_t ujthanor_page(const uint8_t *file, size_t file_len, const uint8_t *page, size_t page_len, uint64_t *number);
 
-/* Summarises a fragment into the first 20 entries of `row`. Answers, in this order: 17, and then the row is not written; 7; 10, 11 or 12,
- * whichever stands earliest; else 0. Refused with 7 or 10 to 12, the row is 20 zeros. Entries past the 20th never change. */
+/* Summarises a fragment into the first 21 entries of `row`. Answers, in this order: 17, and then the row is not written; 7; 10, 11 or 12,
+ * whichever stands earliest; else 0. Refused with 7 or 10 to 12, the row is 21 zeros. Entries past the 21st never change. */
 uint32_t ujthanor_fragment(const uint8_t *file, size_t file_len, const uint8_t *fragment, size_t fragment_len, uint64_t *row,
                            size_t row_len, uint64_t *number);
 
 /* Joins the summaries of two fragments laid end to end into `row`, which is written as by ujthanor_fragment. Answers, in this order: 17, 7,
  * 15, 11, 12; else 0.
  *
- * `left` and `right` may hold anything: what has not exactly 20 entries, or is no summary under the file, is answered with 15. A row that
+ * `left` and `right` may hold anything: what has not exactly 21 entries, or is no summary under the file, is answered with 15. A row that
  * was made with another file may be a summary under this one too, but of nothing: keep rows together with their file. */
 uint32_t ujthanor_join(const uint8_t *file, size_t file_len, const uint64_t *left, size_t left_len, const uint64_t *right,
                        size_t right_len, uint64_t *row, size_t row_len, uint64_t *number);

@@ -1,14 +1,16 @@
 /* What the header allows: no bytes, no table, no row and no output may each be lent as (NULL, 0), and one row may be both sides of a join.
+ * And what it says of a caller built with layout 1, whose rows and tables are too short.
  * Prints nothing where every answer is right; else says which is not, and ends with 1. */
 #include <stdio.h>
 
 #include "ujthanor.h"
 
-/* One template rule, page -> <a></a>, under a schema whose one state is ending and takes any elements: an empty page is valid. */
+/* One template rule, page -> <a></a>, under a schema whose one state is ending and takes any elements, also none: what an empty page lacks
+ * is its outermost element. */
 static const uint8_t OPEN[] = {1, 1, 1, 0, 16, 0, 1, 0, 20, 0, 1, 0, 24, 0, 1, 0, 0, 2, 0, 32, 0, 0, 0, 0, 0};
 
-/* The same with its rule in 14 bytes, page -> <a></a><a></a>, and what is then written: 25 bytes and two rules more. */
-static const uint8_t LONG[] = {1, 1, 1, 0, 16, 0, 1, 0, 30, 0, 1, 0, 34, 0, 1, 0, 0, 4, 0, 32, 0, 32,
+/* The same with its rule in 14 bytes, page -> <a><a></a></a>, and what is then written: 25 bytes and two rules more. */
+static const uint8_t LONG[] = {1, 1, 1, 0, 16, 0, 1, 0, 30, 0, 1, 0, 34, 0, 1, 0, 0, 4, 0, 0, 32, 32,
                                255, 255, 255, 255, 255, 255, 255, 255, 0, 0, 0, 0, 0};
 enum { WRITTEN = sizeof OPEN + 8 };
 
@@ -52,7 +54,7 @@ static void checks(void) {
 }
 
 static void pages(void) {
-    answered("page, no bytes", ujthanor_page(OPEN, sizeof OPEN, NULL, 0, &number), UJTHANOR_OK);
+    answered("page, no bytes", ujthanor_page(OPEN, sizeof OPEN, NULL, 0, &number), UJTHANOR_NOT_DERIVED);
     answered("page, no file", ujthanor_page(NULL, 0, OPEN, sizeof OPEN, &number), UJTHANOR_BAD_FILE);
     answered("page, no file and no bytes", ujthanor_page(NULL, 0, NULL, 0, &number), UJTHANOR_BAD_FILE);
 }
@@ -61,7 +63,8 @@ static void fragments(void) {
     answered("fragment, no row", ujthanor_fragment(OPEN, sizeof OPEN, NULL, 0, NULL, 0, &number), UJTHANOR_SHORT_ROW);
     answered("fragment, no file", ujthanor_fragment(NULL, 0, NULL, 0, row, UJTHANOR_ROW, &number), UJTHANOR_BAD_FILE);
     answered("fragment, no bytes", ujthanor_fragment(OPEN, sizeof OPEN, NULL, 0, row, UJTHANOR_ROW, &number), UJTHANOR_OK);
-    holds("the summary of no bytes has no tags and the relation of the empty string", row[0] == 0 && row[3] == 1);
+    holds("the summary of no bytes has no tags, the relation of the empty string and no element",
+          row[0] == 0 && row[3] == 1 && row[UJTHANOR_ROW - 1] == 0);
 }
 
 /* Two rows joined into `other`; null is no row. */
@@ -76,7 +79,7 @@ static void joins(void) {
     answered("join, no left", joined(NULL, row), UJTHANOR_NO_SUMMARY);
     answered("join, no right", joined(row, NULL), UJTHANOR_NO_SUMMARY);
     answered("join, one row twice", joined(row, row), UJTHANOR_OK);
-    holds("no bytes after no bytes are no bytes", other[0] == 0 && other[3] == 1);
+    holds("no bytes after no bytes are no bytes", other[0] == 0 && other[3] == 1 && other[UJTHANOR_ROW - 1] == 0);
 }
 
 static void depths(void) {
@@ -101,6 +104,20 @@ static void splits(void) {
     unset();
 }
 
+/* Layout 1 had an entry less in a row, and so 256 less in a table. */
+static void layout_1(void) {
+    enum { ROW_1 = UJTHANOR_ROW - 1, TABLE_1 = UJTHANOR_TABLE - 256 };
+    row[0] = row[ROW_1] = table[0] = table[TABLE_1] = UNSET;
+    answered("check, old table", ujthanor_check(OPEN, sizeof OPEN, table, TABLE_1, UJTHANOR_BUDGET, &number, &images), UJTHANOR_SHORT_TABLE);
+    holds("an old table is not written", table[0] == UNSET && table[TABLE_1] == UNSET);
+    answered("fragment, old row", ujthanor_fragment(OPEN, sizeof OPEN, NULL, 0, row, ROW_1, &number), UJTHANOR_SHORT_ROW);
+    answered("join, old row", ujthanor_join(OPEN, sizeof OPEN, other, UJTHANOR_ROW, other, UJTHANOR_ROW, row, ROW_1, &number),
+             UJTHANOR_SHORT_ROW);
+    holds("an old row is not written", row[0] == UNSET && row[ROW_1] == UNSET);
+    answered("join, old rows", ujthanor_join(OPEN, sizeof OPEN, other, ROW_1, other, ROW_1, row, UJTHANOR_ROW, &number), UJTHANOR_NO_SUMMARY);
+    answered("net depth, old row", ujthanor_net_depth(OPEN, sizeof OPEN, other, ROW_1, &number, &depth), UJTHANOR_NO_SUMMARY);
+}
+
 int main(void) {
     unset();
     checks();
@@ -109,5 +126,6 @@ int main(void) {
     joins();
     depths();
     splits();
+    layout_1();
     return wrong;
 }

@@ -1,5 +1,5 @@
 /* How much stack the calls use: each is made on a thread whose stack is a painted array, and the lowest byte that lost its paint tells.
- * Prints the most that each call used, and ends with 1 where that is not less than UJTHANOR_STACK, or where a split was refused. */
+ * Prints the most that each call used, and ends with 1 where that is not less than UJTHANOR_STACK, or a check or split was refused. */
 #define _XOPEN_SOURCE 700 /* pthread_attr_setstack */
 #include <pthread.h>
 #include <stdio.h>
@@ -27,11 +27,15 @@ static uint8_t longest[4120], most_split[3336], out[UJTHANOR_LONGEST];
 
 static uint64_t table[UJTHANOR_TABLE], deep[UJTHANOR_ROW], shut[UJTHANOR_ROW], row[UJTHANOR_ROW], number, images;
 static int32_t depth;
-static int refused; /* a split that is refused goes less deep */
+static int refused; /* a check or split that is refused goes less deep */
 
-static void check_k(void) { ujthanor_check(K, sizeof K, table, UJTHANOR_TABLE, UJTHANOR_BUDGET, &number, &images); }
+static void check(const uint8_t *file, size_t len) {
+    refused |= ujthanor_check(file, len, table, UJTHANOR_TABLE, UJTHANOR_BUDGET, &number, &images) != UJTHANOR_OK;
+}
 
-static void check_full(void) { ujthanor_check(full, sizeof full, table, UJTHANOR_TABLE, UJTHANOR_BUDGET, &number, &images); }
+static void check_k(void) { check(K, sizeof K); }
+
+static void check_full(void) { check(full, sizeof full); }
 
 /* Sixteen starts and their ends, so that every place of a summary is used. */
 static const uint8_t TAGS[32] = {[16] = 32, 32, 32, 32, 32, 32, 32, 32, 32, 32, 32, 32, 32, 32, 32, 32};
@@ -110,17 +114,24 @@ static void fill_long(void) {
     put_frame(most_split, 8, 200);
 }
 
-/* Each of 64 nonterminals gives an element, itself twice, the next, and nothing; each of 8 states takes 16 names and leads to itself. */
+/* Four rules of a nonterminal. The start gives itself, two elements, and a start tag with the last behind it; the last gives itself, and
+ * that tag's end, alone or behind one of two others; each other gives nothing, the next, an element, and itself twice. */
+static uint8_t *put_rules(uint8_t *at, uint8_t n) {
+    enum { FIRST = 65, LAST = 127 };
+    const uint8_t own = 64 + n, next = own + 1 < LAST ? own + 1 : FIRST, name = n % 16;
+    const uint8_t page[16] = {0, 1, 64, 255, 0, 2, 0, 32, 0, 2, 0, LAST, 0, 2, 1, 33};
+    const uint8_t rest[16] = {n, 1, 32, 255, n, 1, own, 255, n, 2, FIRST, 32, n, 2, FIRST + 1, 32};
+    const uint8_t other[16] = {n, 0, 255, 255, n, 1, next, 255, n, 2, name, 32 + name, n, 2, own, own};
+    memcpy(at, n == 0 ? page : own == LAST ? rest : other, 16);
+    return at + 16;
+}
+
+/* Four rules for each of 64 nonterminals; each of 8 states takes 16 names and leads to itself. */
 static void fill(void) {
     const uint8_t head[16] = {32, 64, 8, 0, 16, 0, 0, 1, 16, 4, 128, 0, 16, 6, 8, 0};
     memcpy(full, head, sizeof head);
     uint8_t *at = full + sizeof head;
-    for (uint8_t n = 0; n < 64; n++) {
-        const uint8_t next = n < 63 ? 65 + n : 64, own = 64 + n, name = n % 16;
-        const uint8_t rules[4][4] = {{n, 0, 255, 255}, {n, 1, next, 255}, {n, 2, name, 32 + name}, {n, 2, own, own}};
-        memcpy(at, rules, sizeof rules);
-        at += sizeof rules;
-    }
+    for (uint8_t n = 0; n < 64; n++) at = put_rules(at, n);
     for (int i = 0; i < 128; i++) {
         const uint8_t state = (uint8_t)(i / 16), rule[4] = {state, i % 16, state, state};
         memcpy(at, rule, sizeof rule);
@@ -140,7 +151,7 @@ int main(void) {
         return 1;
     }
     int wrong = refused;
-    if (refused) printf("c_stack: a split was refused\n");
+    if (refused) printf("c_stack: a check or a split was refused\n");
     for (int i = 0; i < CALLS; i++) {
         printf("c_stack: %s: %zu bytes\n", calls[i].name, calls[i].used);
         wrong |= calls[i].used >= UJTHANOR_STACK;

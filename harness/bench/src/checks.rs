@@ -4,10 +4,9 @@ use crate::files::{chain, k, Set};
 use crate::sets::{hostile, program};
 use crate::table::{section, Growth};
 use crate::timing::{best, job, now};
+use plain::{BUDGET, TABLE};
 use std::hint::black_box;
 use std::time::Duration;
-
-const BUDGET: usize = 257;
 
 /// A check by the library that takes longer is timed once.
 const ONCE: Duration = Duration::from_secs(2);
@@ -15,7 +14,7 @@ const ONCE: Duration = Duration::from_secs(2);
 /// What both implementations answer, and their times.
 fn timed(set: &Set) -> (ujthanor::calls::Check, [f64; 2]) {
     let file = set.bytes();
-    let (mut ours, mut theirs) = (vec![0; 5120], vec![0; 5120]);
+    let (mut ours, mut theirs) = (vec![0; TABLE], vec![0; TABLE]);
     let begun = now();
     let reply = ujthanor::calls::check(&file, &mut ours, BUDGET);
     let first = now() - begun;
@@ -95,8 +94,8 @@ pub fn of_many_rules() {
     section(
         "A check of 256 rules and 257 rounds",
         "A circle of 8 goes round 32 times, with 9 rules; beside them stand 247 useless ones, which change no reply and no row. Then a \
-         circle of 64 goes round four times, with 65 rules; beside them stand 191 useful ones, which find nothing new. No two of these \
-         rules have the same right side. \"Its first row\" is the circle alone.",
+         circle of 64 goes round four times, with 65 rules; beside them stand 191 useful ones of two nonterminals, which find nothing \
+         new. No two of these rules have the same right side. \"Its first row\" is the circle alone.",
     );
     let mut table = headed(&["set", "nonterminals", "rules"]);
     let (small, large) = (small_circle(), large_circle());

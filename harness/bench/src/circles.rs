@@ -71,8 +71,9 @@ pub fn with_barren(small: &Set) -> Set {
     filled(small, useless)
 }
 
-/// The circle of 64 with every element ending in state 0, from which every element leads to 0: an element before another has the
-/// relation of the first alone.
+/// A circle of 64 in which the start is one element and 1 to 62 are two in a row: 62 gives the start twice, each of the others the next
+/// higher, 63 a start tag before 1, and the start what is open. Every element ends in state 0, from which every element leads to 0: an
+/// element before others has the relation of the first alone.
 pub fn large_circle() -> Set {
     let mut set = circle(64);
     set.schema = set
@@ -80,11 +81,21 @@ pub fn large_circle() -> Set {
         .iter()
         .map(|&[x, a, y, _]| [x, a, y, 0])
         .collect();
+    set.rules = (1..62).map(|i| [i, 1, symbol(i + 1), 255]).collect();
+    set.rules.extend([
+        [0, 2, 0, 32],
+        [0, 2, symbol(63), 32],
+        [62, 2, symbol(0), symbol(0)],
+        [63, 2, 0, symbol(1)],
+    ]);
     set
 }
 
 /// The large circle and useful rules that lead back: i + 1 gives i and another, and so only what i + 1 had before i.
 pub fn with_back(large: &Set) -> Set {
-    let back = (0..=255).map(|i| [i % 62 + 1, 2, symbol(i % 62), symbol(i / 62)]);
-    filled(large, back)
+    let back = (0..=255).map(|n| (1 + n % 61, n / 61));
+    filled(
+        large,
+        back.map(|(i, other)| [i + 1, 2, symbol(i), symbol(other)]),
+    )
 }

@@ -2,15 +2,16 @@
 use crate::files::{k, open_schema};
 use crate::table::{section, Growth};
 use crate::timing::{best, job};
+use plain::{Row, ROW};
 use std::hint::black_box;
 
 /// The row of a fragment's summary.
-fn summary(file: &[u8], bytes: &[u8]) -> [u64; 20] {
+fn summary(file: &[u8], bytes: &[u8]) -> Row {
     ujthanor::fragment(file, bytes).unwrap().0
 }
 
 fn join_times(file: &[u8], left: &[u64], right: &[u64]) -> [f64; 2] {
-    let (mut ours, mut theirs) = ([0; 20], [0; 20]);
+    let (mut ours, mut theirs) = ([0; ROW], [0; ROW]);
     assert_eq!(
         ujthanor::calls::join(file, left, right, &mut ours).answer,
         0

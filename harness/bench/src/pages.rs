@@ -2,13 +2,14 @@
 use crate::files::{idle_schema, open_schema, Set};
 use crate::table::{section, Growth};
 use crate::timing::{best, job};
+use plain::ROW;
 use seeds::Rng;
 use std::hint::black_box;
 
-/// About so many tags: elements nested so deep, side by side.
+/// About so many tags: in one element, elements nested so deep, side by side.
 fn comb(set: &Set, depth: usize, tags: usize) -> Vec<u8> {
     let mut numbers = Rng::new(depth as u64);
-    let mut page = Vec::new();
+    let mut page = vec![0];
     while page.len() < tags {
         let names: Vec<u8> = (0..depth)
             .map(|_| numbers.below(set.names as usize) as u8)
@@ -16,6 +17,7 @@ fn comb(set: &Set, depth: usize, tags: usize) -> Vec<u8> {
         page.extend(&names);
         page.extend(names.iter().rev().map(|a| 32 + a));
     }
+    page.push(32);
     page
 }
 
@@ -39,7 +41,7 @@ fn tag_times(set: &Set, page: &[u8]) -> [f64; 2] {
 pub fn by_rules_and_depth() {
     section(
         "A page by schema rules and depth",
-        "20,000 tags: elements nested so deep, side by side; 8 states. 4 rules have 4 names, 32 have 8, 128 have 32.",
+        "20,000 tags: in one element, elements nested so deep, side by side; 8 states. 4 rules have 4 names, 32 have 8, 128 have 32.",
     );
     let mut table = Growth::new(&["schema rules", "depth"]);
     for (names, rules) in [(4, 4), (8, 32), (32, 128)] {
@@ -100,7 +102,7 @@ pub fn by_length() {
 }
 
 fn fragment_times(file: &[u8], bytes: &[u8]) -> [f64; 2] {
-    let (mut ours, mut theirs) = ([0; 20], [0; 20]);
+    let (mut ours, mut theirs) = ([0; ROW], [0; ROW]);
     assert_eq!(ujthanor::calls::fragment(file, bytes, &mut ours).answer, 0);
     assert_eq!(plain::fragment(file, bytes, &mut theirs).0, 0);
     assert_eq!(ours, theirs);

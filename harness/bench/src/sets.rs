@@ -100,8 +100,8 @@ fn frame(set: &mut Set, tags: u8) -> u8 {
 }
 
 /// Hostile: two nonterminals with width² images each, and so many rules that all give their pair. Their forms have `2 * half` starts
-/// and as many ends, so that each of the width⁴ joins cancels all tags; the whole is always the same, so that each
-/// rule has one image. With 64 rules the set is crowded, in the round of those joins.
+/// and as many ends, with letters inside them, so that each of the width⁴ joins cancels all tags; the whole is one element and always
+/// the same, so that each rule has one image. With 64 rules the set is crowded, in the round of those joins.
 pub fn hostile(width: u8, half: u8, rules: u8, schema_rules: usize) -> Set {
     let tag = width;
     let mut set = Set {
@@ -124,8 +124,8 @@ pub fn hostile(width: u8, half: u8, rules: u8, schema_rules: usize) -> Set {
     set.rules = (0..width).map(|i| [letter, 2, i, 32 + i]).collect();
     let (starts, ends, free) = doubled(&mut set, tag, half, steps);
     set.rules.extend([
-        [opener, 2, symbol(letter), starts],
-        [closer, 2, ends, symbol(letter)],
+        [opener, 2, starts, symbol(letter)],
+        [closer, 2, symbol(letter), ends],
         [left, 2, symbol(opener), symbol(opener)],
         [right, 2, symbol(closer), symbol(closer)],
     ]);

@@ -1,4 +1,4 @@
-//! Pages to be judged: derived from a schema, changed a little, and random.
+//! Pages to be judged: valid ones, rows of elements that a schema derives, changed ones, and random ones.
 use crate::schema::Schema;
 use seeds::Rng;
 
@@ -39,8 +39,27 @@ impl<'a> Sampler<'a> {
         }
     }
 
-    /// A page that state 0 derives, if any nests no deeper than asked.
+    /// The rules by which state 0 derives one element alone, within a depth of at least 1.
+    fn roots(&self, depth: usize) -> Vec<[u8; 4]> {
+        let alone =
+            |r: &&[u8; 4]| self.schema.ends(r[3]) && self.fewest[depth - 1][r[2] as usize] < NEVER;
+        self.schema.rules_of(0).filter(alone).copied().collect()
+    }
+
+    /// A valid page, if any nests no deeper than asked.
     pub fn page(&self, random: &mut Rng) -> Option<Vec<u8>> {
+        let depth = 1 + random.below(self.deepest);
+        let depth = (depth..=self.deepest).find(|&d| !self.roots(d).is_empty())?;
+        let [_, a, y, _] = random.pick(&self.roots(depth));
+        let tags = self.fewest[depth - 1][y as usize] + random.below(LENGTH);
+        let mut page = vec![a];
+        self.derive(random, y, depth - 1, tags, &mut page);
+        page.push(32 + a);
+        Some(page)
+    }
+
+    /// What state 0 derives, with any number of outermost elements, if anything nests no deeper than asked.
+    pub fn row(&self, random: &mut Rng) -> Option<Vec<u8>> {
         let depth = 1 + random.below(self.deepest);
         let depth = (depth..=self.deepest).find(|&d| self.fewest[d][0] < NEVER)?;
         let tags = self.fewest[depth][0] + random.below(LENGTH);

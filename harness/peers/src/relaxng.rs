@@ -1,20 +1,16 @@
 //! RELAX NG's XML syntax for several schemas at once, so that one run of a program judges the pages of all of them.
 //!
 //! The element names of schema k are spelled `k.e0`, `k.e1` and so on with a letter before them, so no two schemas share a name.
-//! RELAX NG asks that the outermost pattern be a choice of elements: for each schema those elements that state 0 gives alone,
-//! and an element of its own, `page`, around anything that state 0 derives.
+//! RELAX NG's start is one element, as a page is: for each schema the choice of those elements that state 0 derives alone, by a rule
+//! 0, a, Y, Z whose Z is ending. That state 0 may also derive nothing, or several elements, is of no account to either.
 use crate::expression::{of_state, Expression};
 use crate::schema::Schema;
+use std::collections::BTreeSet;
 use std::fmt::Write;
 
 /// The name of element a under schema k.
 pub fn element(k: usize, a: u8) -> String {
     format!("s{k}.e{a}")
-}
-
-/// The name of the element around a whole page under schema k.
-pub fn around(k: usize) -> String {
-    format!("s{k}.page")
 }
 
 fn state(k: usize, y: u8) -> String {
@@ -26,12 +22,14 @@ fn letter(k: usize, a: u8, y: u8) -> String {
     format!("s{k}.e{a}.q{y}")
 }
 
+fn write_letter(out: &mut String, k: usize, a: u8, y: u8) {
+    write!(out, "<ref name=\"{}\"/>", letter(k, a, y)).unwrap();
+}
+
 fn write_expression(out: &mut String, k: usize, e: &Expression) {
     let (name, parts) = match e {
         Expression::Empty => return out.push_str("<empty/>"),
-        Expression::Letter(a, y) => {
-            return write!(out, "<ref name=\"{}\"/>", letter(k, *a, *y)).unwrap()
-        }
+        Expression::Letter(a, y) => return write_letter(out, k, *a, *y),
         Expression::Choice(l, r) => ("choice", vec![l, r]),
         Expression::Group(l, r) => ("group", vec![l, r]),
         Expression::Many(e) => ("zeroOrMore", vec![e]),
@@ -43,20 +41,13 @@ fn write_expression(out: &mut String, k: usize, e: &Expression) {
     write!(out, "</{name}>").unwrap();
 }
 
-fn write_element(out: &mut String, name: &str, content: &str) {
-    writeln!(
-        out,
-        "<element name=\"{name}\"><ref name=\"{content}\"/></element>"
-    )
-    .unwrap();
-}
-
-/// The outermost elements: one of state 0 with nothing behind it, or the page as a whole.
+/// The outermost elements: those of state 0 with nothing behind them.
 fn write_roots(out: &mut String, k: usize, schema: &Schema) {
-    for &[_, a, y, _] in schema.rules_of(0).filter(|r| schema.ends(r[3])) {
-        write_element(out, &element(k, a), &state(k, y));
+    let alone = schema.rules_of(0).filter(|r| schema.ends(r[3]));
+    let letters: BTreeSet<(u8, u8)> = alone.map(|r| (r[1], r[2])).collect();
+    for (a, y) in letters {
+        write_letter(out, k, a, y);
     }
-    write_element(out, &around(k), &state(k, 0));
 }
 
 fn write_states(out: &mut String, k: usize, schema: &Schema) {
@@ -71,13 +62,16 @@ fn write_states(out: &mut String, k: usize, schema: &Schema) {
 }
 
 fn write_letters(out: &mut String, k: usize, schema: &Schema) {
-    let mut letters: Vec<(u8, u8)> = schema.rules.iter().map(|r| (r[1], r[2])).collect();
-    letters.sort();
-    letters.dedup();
+    let letters: BTreeSet<(u8, u8)> = schema.rules.iter().map(|r| (r[1], r[2])).collect();
     for (a, y) in letters {
-        write!(out, "<define name=\"{}\">", letter(k, a, y)).unwrap();
-        write_element(out, &element(k, a), &state(k, y));
-        out.push_str("</define>\n");
+        writeln!(
+            out,
+            "<define name=\"{}\"><element name=\"{}\"><ref name=\"{}\"/></element></define>",
+            letter(k, a, y),
+            element(k, a),
+            state(k, y)
+        )
+        .unwrap();
     }
 }
 
@@ -87,10 +81,11 @@ pub fn size(schema: &Schema) -> usize {
     (0..schema.states).map(of).sum()
 }
 
-/// The grammar of these schemas.
+/// The grammar of these schemas. The choice that nobody can make stands for those that have no valid page.
 pub fn grammar(schemas: &[Schema]) -> String {
-    let mut out =
-        String::from("<grammar xmlns=\"http://relaxng.org/ns/structure/1.0\">\n<start><choice>\n");
+    let mut out = String::from(
+        "<grammar xmlns=\"http://relaxng.org/ns/structure/1.0\">\n<start><choice><notAllowed/>\n",
+    );
     for (k, schema) in schemas.iter().enumerate() {
         write_roots(&mut out, k, schema);
     }

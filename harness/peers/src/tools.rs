@@ -77,9 +77,10 @@ pub fn xmllint(
         .collect()
 }
 
-/// The file and the verdict of one line of jing's.
-fn jing_line(line: &str) -> (&str, Verdict) {
+/// The file and the verdict of one line of jing's. Of an empty file it says no name; it stops there, so that it is the last.
+fn jing_line<'a>(line: &'a str, last: &'a str) -> (&'a str, Verdict) {
     let verdict = match line {
+        l if l.starts_with("fatal: ") => return (last, Verdict::NotWellFormed),
         l if l.contains(": fatal: ") => Verdict::NotWellFormed,
         l if l.contains(": error: ") => Verdict::Invalid,
         _ => panic!("jing says: {line}"),
@@ -94,8 +95,9 @@ pub fn jing(folder: &Path, grammar: &str, files: &[String], limit: Duration) -> 
     let text = printed(folder, "jing", &[grammar], files, limit);
     let mut told: HashMap<&str, Verdict> =
         files.iter().map(|f| (f.as_str(), Verdict::Valid)).collect();
+    let last = files.last().map_or("", |f| f.as_str());
     for line in text.lines().filter(|l| !l.starts_with("[warning]")) {
-        let (file, verdict) = jing_line(line);
+        let (file, verdict) = jing_line(line, last);
         let known = told.get_mut(file);
         let known = known.unwrap_or_else(|| panic!("jing says: {line}"));
         *known = verdict.max(*known);

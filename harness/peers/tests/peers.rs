@@ -1,10 +1,11 @@
 //! The page reader against xmllint and jing, which judge the same schemas as RELAX NG and the same pages as XML.
 //!
-//! A page is valid (answer 0), balanced and not derived (14; the peers: invalid), or not balanced (11 and 13; the peers: not
-//! well-formed). Pages that nest past 16 are refused by the page reader alone (12): they are left out and counted.
+//! A page is valid (answer 0), one element and not derived (14; the peers: invalid), or no document: not balanced (11 and 13), or
+//! without exactly one outermost element (14 too; the peers: not well-formed). Pages that nest past 16 are refused by the page reader
+//! alone (12): they are left out and counted.
 //!
-//! jing has to agree on every page that it is given. Of those that are not well-formed it is given one a group, since it stops
-//! there; xmllint is given all. Under an ambiguous schema (some state has two rules of the same name) both programs may need time
+//! jing has to agree on every page that it is given. Of those that are not well-formed it is given one of each kind a group (not
+//! balanced, empty, several elements side by side), since it stops there; xmllint is given all. Under an ambiguous schema (some state has two rules of the same name) both programs may need time
 //! exponential in the nesting, so that pages of random schemas of that kind that nest past 6 (2 to 5 where a name has many rules)
 //! are left out and counted; and libxml2 is known to turn down some valid pages there. So every word of xmllint on a page of a
 //! deterministic schema has to agree, while under ambiguous ones differences from jing and the page reader are counted and printed.
@@ -39,6 +40,7 @@ struct Case {
     page: Vec<u8>,
     file: String,
     expected: Verdict,
+    balanced: bool,
 }
 
 /// A group: its schemas, its cases, and how many pages nest too deep to be one: past 16, or past
@@ -68,12 +70,13 @@ impl Drop for Folder {
     }
 }
 
-/// The page reader's answer as a verdict; none where the page nests too deep.
-fn read(file: &[u8], page: &[u8]) -> Option<Verdict> {
+/// The page reader's answer as a verdict, and whether it says that the page is balanced; none where the page nests too deep.
+fn read(file: &[u8], page: &[u8]) -> Option<(Verdict, bool)> {
     match ujthanor::calls::page(file, page).answer {
-        0 => Some(Verdict::Valid),
-        14 => Some(Verdict::Invalid),
-        11 | 13 => Some(Verdict::NotWellFormed),
+        0 => Some((Verdict::Valid, true)),
+        14 if markup::has_one_root(page) => Some((Verdict::Invalid, true)),
+        14 => Some((Verdict::NotWellFormed, true)),
+        11 | 13 => Some((Verdict::NotWellFormed, false)),
         12 => None,
         answer => panic!("answer {answer} on {page:?} under {file:?}"),
     }
@@ -108,8 +111,11 @@ fn pages(schema: &Schema, numbers: &mut Rng) -> Vec<Vec<u8>> {
     let mut pages = Vec::new();
     for _ in 0..PAGES {
         let tags = numbers.below(24);
-        let derived = sampler.page(numbers);
-        let base = derived.unwrap_or_else(|| balanced(numbers, names, tags, deepest));
+        let valid = sampler.page(numbers);
+        let base = valid.unwrap_or_else(|| {
+            let inside = balanced(numbers, names, tags, deepest - 1);
+            nested(numbers, names, &inside, 1)
+        });
         let near = changed(numbers, names, &base);
         pages.push(changed(numbers, names, &near));
         pages.push(near);
@@ -119,8 +125,10 @@ fn pages(schema: &Schema, numbers: &mut Rng) -> Vec<Vec<u8>> {
             true => balanced(numbers, names, tags, deepest),
             false => unruly(numbers, names, tags),
         });
+        pages.extend(sampler.row(numbers));
         pages.push(base);
     }
+    pages.push(Vec::new());
     if schema.label == "trouble" {
         pages.push(trouble().1);
     }
@@ -135,7 +143,7 @@ fn group(number: usize, folder: &Folder) -> Group {
     for (k, schema) in schemas.iter().enumerate() {
         let template = schema.file();
         for page in pages(schema, &mut numbers) {
-            let Some(expected) = read(&template, &page) else {
+            let Some((expected, balanced)) = read(&template, &page) else {
                 deep += 1;
                 continue;
             };
@@ -150,6 +158,7 @@ fn group(number: usize, folder: &Folder) -> Group {
                 page,
                 file,
                 expected,
+                balanced,
             });
         }
     }
@@ -180,19 +189,25 @@ fn files(cases: &[&Case]) -> Vec<String> {
     cases.iter().map(|c| c.file.clone()).collect()
 }
 
-/// jing on every well-formed page and one that is not: all must agree. How many it judged.
+/// jing on every well-formed page, and in runs of their own on one of each kind that is not: all must agree. How many it judged.
 fn by_jing(group: &Group, folder: &Folder) -> usize {
-    let mut cases = group.chosen(|c| c.expected != Verdict::NotWellFormed);
-    cases.extend(
-        group
-            .chosen(|c| c.expected == Verdict::NotWellFormed)
-            .first(),
-    );
-    let verdicts = jing(&folder.0, "g.rng", &files(&cases), LONG);
-    for (case, verdict) in cases.iter().zip(verdicts) {
-        assert_eq!(case.expected, verdict, "jing differs: {}", group.show(case));
+    let first = |kind: fn(&Case) -> bool| {
+        let unformed = group.chosen(|c| c.expected == Verdict::NotWellFormed && kind(c));
+        unformed.into_iter().take(1)
+    };
+    let formed = group.chosen(|c| c.expected != Verdict::NotWellFormed);
+    let runs: [Vec<&Case>; 3] = [
+        formed.into_iter().chain(first(|c| !c.balanced)).collect(),
+        first(|c| c.page.is_empty()).collect(),
+        first(|c| c.balanced && !c.page.is_empty()).collect(),
+    ];
+    for cases in &runs {
+        let verdicts = jing(&folder.0, "g.rng", &files(cases), LONG);
+        for (case, verdict) in cases.iter().zip(verdicts) {
+            assert_eq!(case.expected, verdict, "jing differs: {}", group.show(case));
+        }
     }
-    cases.len()
+    runs.concat().len()
 }
 
 /// What xmllint makes of the pages of some schemas.
@@ -242,10 +257,12 @@ fn compare(number: usize, folder: &Folder, with_xmllint: bool, with_jing: bool) 
     let group = group(number, folder);
     let count = |v| group.chosen(|c| c.expected == v).len();
     let kinds = [Verdict::Valid, Verdict::Invalid, Verdict::NotWellFormed].map(count);
+    let rootless = group.chosen(|c| c.expected == Verdict::NotWellFormed && c.balanced);
     println!(
-        "group {number}: {} schemas; pages: {} valid, {} invalid, {} not well-formed; left out: {} nest past 16, {} past 2 to 6 under ambiguous schemas",
-        group.schemas.len(), kinds[0], kinds[1], kinds[2], group.deep, group.steep
+        "group {number}: {} schemas; pages: {} valid, {} invalid, {} not well-formed ({} of them balanced); left out: {} nest past 16, {} past 2 to 6 under ambiguous schemas",
+        group.schemas.len(), kinds[0], kinds[1], kinds[2], rootless.len(), group.deep, group.steep
     );
+    assert!(rootless.len() > 100);
     if with_jing {
         println!("  jing agrees on all of {} pages", by_jing(&group, folder));
     }

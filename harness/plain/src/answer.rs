@@ -14,6 +14,7 @@ pub const NO_TAG: u32 = 10;
 pub const MISMATCH: u32 = 11;
 pub const TOO_DEEP: u32 = 12;
 pub const UNMATCHED: u32 = 13;
+/// Balanced, but not derived, or not exactly one outermost element.
 pub const NOT_DERIVED: u32 = 14;
 pub const NO_SUMMARY: u32 = 15;
 /// Of splitting: the written file would be past the limits.

@@ -47,7 +47,7 @@ pub fn page(file: &[u8], bytes: &[u8]) -> (u32, u64) {
         Err(reply) => reply,
         Ok(summary) => match summary.balanced() {
             None => (UNMATCHED, 0),
-            Some(relation) if schema.valid(relation) => (PASSED, 0),
+            Some(piece) if schema.valid(piece) => (PASSED, 0),
             Some(_) => (NOT_DERIVED, 0),
         },
     }

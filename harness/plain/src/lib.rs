@@ -15,8 +15,8 @@ pub mod summary;
 
 pub use calls::{check, fragment, join, net_depth, page, split};
 
-/// Entries of a row: one head, two of names, seventeen relations.
-pub const ROW: usize = 20;
+/// Entries of a row: one head, two of names, seventeen relations, one of their counts.
+pub const ROW: usize = 21;
 /// The most images that a worktable holds.
 pub const IMAGES: usize = 256;
 /// Entries of a worktable.

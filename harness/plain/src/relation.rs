@@ -1,4 +1,4 @@
-//! Relations as 64-bit numbers (bit 8·X+Z), and the schema as tables over them.
+//! Relations as 64-bit numbers (bit 8·X+Z), counts of outermost elements beside them, and the schema as tables over relations.
 
 use crate::file::File;
 
@@ -22,10 +22,31 @@ pub fn compose(left: Relation, right: Relation) -> Relation {
     })
 }
 
+/// The largest count: it stands for two outermost elements and for more.
+pub const MANY: u8 = 2;
+
+/// What a summary keeps of a balanced string: its relation, and how many outermost elements it has.
+#[derive(Clone, Copy, Debug, Default)]
+pub struct Piece {
+    pub relation: Relation,
+    pub count: u8,
+}
+
+impl Piece {
+    /// This one's string, then the other's.
+    #[inline]
+    pub fn then(self, right: Piece) -> Piece {
+        Piece {
+            relation: compose(self.relation, right.relation),
+            count: MANY.min(self.count + right.count),
+        }
+    }
+}
+
 /// What a file says of relations.
 pub struct Schema {
-    /// The relation of the empty string.
-    pub empty: Relation,
+    /// The piece of the empty string.
+    pub empty: Piece,
     /// The pairs below Q: no other bit may stand in a relation.
     pub within: Relation,
     /// The ending states as a row of bits.
@@ -38,7 +59,10 @@ impl Schema {
     pub fn new(file: &File) -> Self {
         let row = (1u64 << file.states) - 1;
         let mut schema = Schema {
-            empty: (0..file.states).fold(0, |sum, x| sum | pair(x, x)),
+            empty: Piece {
+                relation: (0..file.states).fold(0, |sum, x| sum | pair(x, x)),
+                count: 0,
+            },
             within: (0..file.states).fold(0, |sum, x| sum | row << (8 * x)),
             ending: file.ending.iter().fold(0, |sum, z| sum | 1 << z),
             pairs: [[0; 8]; 32],
@@ -49,18 +73,19 @@ impl Schema {
         schema
     }
 
-    /// The relation of start `name`, a string of relation `content`, end `name`.
+    /// The piece of start `name`, a string whose piece is `content`, end `name`: one outermost element, whatever it holds.
     #[inline]
-    pub fn element(&self, name: u8, content: Relation) -> Relation {
+    pub fn element(&self, name: u8, content: Piece) -> Piece {
         let pairs = &self.pairs[name as usize];
-        (0..8).fold(0, |sum, y| {
-            let ends = (content >> (8 * y)) & self.ending != 0;
+        let relation = (0..8).fold(0, |sum, y| {
+            let ends = (content.relation >> (8 * y)) & self.ending != 0;
             sum | if ends { pairs[y] } else { 0 }
-        })
+        });
+        Piece { relation, count: 1 }
     }
 
-    /// Whether state 0 derives a balanced string of this relation.
-    pub fn valid(&self, relation: Relation) -> bool {
-        relation & self.ending != 0
+    /// Whether a balanced string of this piece is a valid page: state 0 derives it, and it has exactly one outermost element.
+    pub fn valid(&self, page: Piece) -> bool {
+        page.relation & self.ending != 0 && page.count == 1
     }
 }

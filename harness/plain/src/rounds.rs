@@ -138,7 +138,7 @@ impl Found {
     /// A string with a summary, under each nonterminal that derives it.
     fn take(&mut self, lefts: &[u8], summary: Summary, schema: &Schema) {
         for &left in lefts {
-            if left == 0 && !summary.balanced().is_some_and(|r| schema.valid(r)) {
+            if left == 0 && !summary.balanced().is_some_and(|page| schema.valid(page)) {
                 self.meet(answer::BROKEN_PAGE);
             }
             // A crowded round decides nothing by further images.

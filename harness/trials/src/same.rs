@@ -24,7 +24,7 @@ fn differ(
     ))
 }
 
-/// The tables are lent full of garbage. Only answers 0 to 5 may write, and only the first 5,120.
+/// The tables are lent full of garbage. Only answers 0 to 5 may write, and only as many entries as a worktable has.
 pub fn same_check(file: &[u8], table_length: usize, budget: usize, rng: &mut Rng) -> Agreed {
     let lent = rng.entries(table_length);
     let (mut one, mut two) = (lent.clone(), lent.clone());

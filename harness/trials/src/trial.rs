@@ -7,7 +7,7 @@ use crate::same::{
     same_check, same_fragment, same_join, same_net_depth, same_page, same_split, Difference,
 };
 use crate::tally::{Tally, CHECK, FRAGMENT, JOIN, NET_DEPTH, PAGE, SPLIT};
-use plain::LONGEST;
+use plain::{LONGEST, ROW};
 use seeds::Rng;
 
 /// How many comparisons a round makes of each kind (fewer of a file that is not sound).
@@ -63,7 +63,7 @@ fn unsound(file: &[u8], rng: &mut Rng, tally: &mut Tally) -> Result<(), Differen
     let bytes = pages::any(2, None, rng);
     tally.note(PAGE, same_page(file, &bytes)?);
     tally.note(FRAGMENT, same_fragment(file, &bytes, sizes::row(rng), rng)?);
-    let (left, right) = (rng.entries(20), vec![0; 20]);
+    let (left, right) = (rng.entries(ROW), vec![0; ROW]);
     tally.note(JOIN, same_join(file, &left, &right, sizes::row(rng), rng)?);
     tally.note(NET_DEPTH, same_net_depth(file, &right)?);
     Ok(())

@@ -1,5 +1,6 @@
 //! Small ranges gone through from end to end.
 
+use plain::{DEEPEST, IMAGES, LONGEST, ROW, TABLE};
 use seeds::Rng;
 use std::collections::BTreeSet;
 use trials::gen::rows::{self, Under};
@@ -11,16 +12,16 @@ fn must(agreed: Agreed) -> u32 {
 }
 
 fn all_calls(file: &[u8], rng: &mut Rng) {
-    must(same_check(file, 5_121, 64, rng));
+    must(same_check(file, TABLE + 1, 64, rng));
     must(same_page(file, &[1, 33]));
-    must(same_fragment(file, &[32, 0], 20, rng));
-    must(same_join(file, &[0; 20], &[0; 20], 20, rng));
-    must(same_net_depth(file, &[0; 20]));
+    must(same_fragment(file, &[32, 0], ROW, rng));
+    must(same_join(file, &[0; ROW], &[0; ROW], ROW, rng));
+    must(same_net_depth(file, &[0; ROW]));
 }
 
 /// The place at which a check finds a fault, if it finds one.
 fn place(file: &[u8]) -> Option<u64> {
-    let (answer, place, _) = trials::library::check(file, &mut vec![0; 5_120], 1);
+    let (answer, place, _) = trials::library::check(file, &mut vec![0; TABLE], 1);
     (answer == 7).then_some(place)
 }
 
@@ -53,7 +54,7 @@ fn each_two_bytes_of_k_with_some_values() {
                 let mut file = k.clone();
                 file[one] = values[pair % values.len()];
                 file[two] = values[pair / values.len()];
-                must(same_fragment(&file, &[32, 0], 20, &mut rng));
+                must(same_fragment(&file, &[32, 0], ROW, &mut rng));
             }
         }
     }
@@ -78,9 +79,11 @@ fn each_length_of_a_table() {
     let mut rng = Rng::new(3);
     for named in named::all() {
         let file = named.draft.bytes();
-        for length in (0..3).chain(5_100..=5_140).chain([10_000]) {
+        // Around the length that is asked for, and that of rows with an entry less.
+        let near = [TABLE - IMAGES, TABLE].map(|length| length - ROW..=length + ROW);
+        for length in (0..3).chain(near.into_iter().flatten()).chain([2 * TABLE]) {
             let answer = must(same_check(&file, length, 20, &mut rng));
-            assert_eq!(answer == 9, length < 5_120);
+            assert_eq!(answer == 9, length < TABLE);
         }
     }
 }
@@ -99,7 +102,7 @@ fn each_budget() {
             .chain(250..=260)
             .chain([usize::MAX - 1, usize::MAX])
         {
-            let answer = must(same_check(&file, 5_120, budget, &mut rng));
+            let answer = must(same_check(&file, TABLE, budget, &mut rng));
             assert_eq!(answer == 8, !(1..=257).contains(&budget));
         }
     }
@@ -109,15 +112,15 @@ fn each_budget() {
 fn each_length_of_a_row() {
     let mut rng = Rng::new(5);
     for file in [named::k().bytes(), named::k_barren().bytes(), vec![1]] {
-        for length in 0..=40 {
+        for length in 0..=2 * ROW {
             for bytes in [&[32, 0][..], &[0, 33], &[9], &[0; 20]] {
                 let answer = must(same_fragment(&file, bytes, length, &mut rng));
-                assert_eq!(answer == 17, length < 20);
+                assert_eq!(answer == 17, length < ROW);
             }
-            let answer = must(same_join(&file, &[0; 20], &[0; 20], length, &mut rng));
-            assert_eq!(answer == 17, length < 20);
-            must(same_join(&file, &vec![0; length], &[0; 20], 20, &mut rng));
-            must(same_join(&file, &[0; 20], &vec![0; length], 20, &mut rng));
+            let answer = must(same_join(&file, &[0; ROW], &[0; ROW], length, &mut rng));
+            assert_eq!(answer == 17, length < ROW);
+            must(same_join(&file, &vec![0; length], &[0; ROW], ROW, &mut rng));
+            must(same_join(&file, &[0; ROW], &vec![0; length], ROW, &mut rng));
             must(same_net_depth(&file, &vec![0; length]));
         }
     }
@@ -139,16 +142,41 @@ fn each_way_of_a_broken_row() {
             let good = rows::invented(under, &mut rng);
             let answer = must(same_net_depth(&file, &row));
             assert_eq!(
-                must(same_join(&file, &row, &good, 20, &mut rng)) == 15,
+                must(same_join(&file, &row, &good, ROW, &mut rng)) == 15,
                 answer == 15
             );
             assert_eq!(
-                must(same_join(&file, &good, &row, 20, &mut rng)) == 15,
+                must(same_join(&file, &good, &row, ROW, &mut rng)) == 15,
                 answer == 15
             );
             refused += u32::from(answer == 15);
         }
         assert!(refused >= 200, "way {way}: {refused}");
+    }
+}
+
+#[test]
+fn each_count_at_each_place() {
+    let mut rng = Rng::new(13);
+    let k = named::k().bytes();
+    let empty = [0; ROW];
+    for tags in 0..=DEEPEST {
+        let mut good = [0; ROW];
+        assert_eq!(
+            trials::library::fragment(&k, &vec![0; tags], &mut good).0,
+            0
+        );
+        for place in 0..32 {
+            for count in 1..4 {
+                let mut row = good;
+                row[ROW - 1] = count << (2 * place);
+                let answer = must(same_net_depth(&k, &row));
+                assert_eq!(answer == 0, place <= tags && count < 3);
+                for (left, right) in [(row, empty), (empty, row)] {
+                    assert_eq!(must(same_join(&k, &left, &right, ROW, &mut rng)), answer);
+                }
+            }
+        }
     }
 }
 
@@ -177,11 +205,11 @@ fn the_longest_file() {
     let mut longest = 0;
     for _ in 0..3_000 {
         let file = sets::any(&mut rng).bytes();
-        if file.len() == 1_560 {
+        if file.len() == LONGEST {
             longest += 1;
-            must(same_check(&file, 5_125, 257, &mut rng));
+            must(same_check(&file, TABLE + 5, 257, &mut rng));
             let more = [&file[..], &[8]].concat();
-            assert_eq!(must(same_check(&more, 5_125, 257, &mut rng)), 7);
+            assert_eq!(must(same_check(&more, TABLE + 5, 257, &mut rng)), 7);
             assert_eq!(place(&more), Some(0));
         }
     }
@@ -201,7 +229,7 @@ fn places_past_every_small_number() {
             long.extend(&tail);
             assert_eq!(must(same_page(&k, &long)), answer);
             assert_eq!(trials::library::page(&k, &long), (answer, place + further));
-            assert_eq!(must(same_fragment(&k, &long, 22, &mut rng)), answer);
+            assert_eq!(must(same_fragment(&k, &long, ROW + 2, &mut rng)), answer);
             long.truncate(2 * pairs);
         }
     }

@@ -1,7 +1,9 @@
 //! Joining parts against reading the whole, and reading against the definitions.
 
 use plain::file::read;
+use plain::oracle::derive::Derivations;
 use plain::oracle::reading;
+use plain::oracle::words::outermost;
 use plain::{Row, ROW};
 use seeds::Rng;
 use trials::gen::sample::Sampler;
@@ -84,6 +86,8 @@ fn parts_joined_in_any_order_are_the_whole() {
 fn reading_is_what_the_definitions_say() {
     let mut rng = Rng::new(12);
     let mut seen = [0u32; 16];
+    // Pages that are balanced and derived, by their outermost elements: none, one, two, more.
+    let mut derived = [0u32; 4];
     for _ in 0..6_000 {
         let bytes = sets::any(&mut rng).bytes();
         let file = read(&bytes).expect("sound");
@@ -108,9 +112,14 @@ fn reading_is_what_the_definitions_say() {
                 "file {bytes:?}\nfragment {text:?}"
             );
             seen[reply.0 as usize] += 1;
+            if reply.0 == 0 || reply.0 == 14 {
+                let by_schema = Derivations::new(&file, &text).part(0, 0, text.len(), None);
+                derived[outermost(&text).len().min(3)] += u32::from(by_schema);
+            }
         }
     }
-    println!("{seen:?}");
+    println!("{seen:?}, derived {derived:?}");
+    assert!(derived.iter().all(|&times| times >= 200), "{derived:?}");
     for answer in [0, 10, 11, 12, 13, 14] {
         assert!(seen[answer] >= 200, "{answer}: {seen:?}");
     }

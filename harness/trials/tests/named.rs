@@ -35,8 +35,16 @@ fn file_k_and_its_rows() {
     assert_eq!(k(), bytes);
     let mut table = vec![7; TABLE + 1];
     assert_eq!(check(&bytes, &mut table, 64), (0, 4, 3));
-    assert_eq!((table[0], table[20], table[40]), (0, 2, 65_537));
-    assert!(table[60..TABLE].iter().all(|&entry| entry == 0));
+    let row = |head, relations: &[u64], counts| {
+        let mut row = [0; ROW];
+        row[0] = head;
+        row[3..3 + relations.len()].copy_from_slice(relations);
+        row[ROW - 1] = counts;
+        row
+    };
+    let rows = [row(0, &[2], 1), row(2, &[2], 1), row(65_537, &[513, 2], 4)];
+    assert_eq!(table[..3 * ROW], rows.concat());
+    assert!(table[3 * ROW..TABLE].iter().all(|&entry| entry == 0));
     assert_eq!(table[TABLE], 7);
 }
 
@@ -46,7 +54,7 @@ fn pages() {
         (&[1, 33], (0, 0)),
         (&[], (14, 0)),
         (&[0, 1, 33, 32], (0, 0)),
-        (&[0, 32, 1, 33], (0, 0)),
+        (&[0, 32, 1, 33], (14, 0)),
         (&[1, 33, 1, 33], (14, 0)),
         (&[0, 33], (11, 1)),
         (&[0], (13, 0)),
@@ -65,13 +73,27 @@ fn pages() {
 }
 
 #[test]
+fn one_outermost_element() {
+    // The schema of the doubling takes any elements, also none.
+    let open = named::doubling(1).bytes();
+    for elements in 0..5 {
+        let told = if elements == 1 { (0, 0) } else { (14, 0) };
+        assert_eq!(page(&open, &[0, 32].repeat(elements)), told);
+        let inside = [vec![0], [0, 32].repeat(elements), vec![32]].concat();
+        assert_eq!(page(&open, &inside), (0, 0));
+    }
+}
+
+#[test]
 fn fragments_and_joins() {
     let joined = |left: &[u8], right: &[u8]| {
         let mut row = [9; ROW];
         (join(&k(), &summary(left), &summary(right), &mut row), row)
     };
-    assert_eq!(summary(&[])[3], 513);
-    assert_eq!(summary(&[1, 33])[3], 2);
+    let single = |bytes: &[u8]| (summary(bytes)[3], summary(bytes)[ROW - 1]);
+    assert_eq!(single(&[]), (513, 0));
+    assert_eq!(single(&[1, 33]), (2, 1));
+    assert_eq!(single(&[0, 32, 1, 33]), (2, 2));
     let both = summary(&[32, 0]);
     assert_eq!(both[..7], [65_792, 0, 0, 513, 513, 513, 0]);
     assert_eq!(net_depth(&k(), &both), (0, 0, 0));

@@ -17,7 +17,7 @@ const CAP: Cap = Cap {
 
 /// The images as ascending rows, then the rest.
 fn worktable(images: &BTreeSet<Image>, rest: u64) -> Vec<u64> {
-    let of = |(n, tags, relations): &Image| row(*n, tags, relations);
+    let of = |(n, tags, pieces): &Image| row(*n, tags, pieces);
     let mut rows: Vec<_> = images.iter().map(of).collect();
     rows.sort();
     let mut table = rows.concat();

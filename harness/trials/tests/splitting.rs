@@ -3,7 +3,7 @@
 use plain::file::{read, read_long, rule};
 use plain::oracle::short::short;
 use plain::oracle::trees::Cap;
-use plain::{LONGEST, LONGEST_LONG};
+use plain::{LONGEST, LONGEST_LONG, TABLE};
 use seeds::Rng;
 use std::collections::BTreeSet;
 use trials::gen::draft::{end, lay, nonterminal, start, LongDraft};
@@ -268,7 +268,7 @@ fn written_files_are_checked_alike() {
         let bytes = long::any(&mut rng).bytes();
         let (answer, out) = both(&bytes, LONGEST);
         if answer == 0 {
-            let checked = same_check(&out, 5_121, 257, &mut rng);
+            let checked = same_check(&out, TABLE + 1, 257, &mut rng);
             seen[checked.unwrap_or_else(|difference| panic!("{difference}")) as usize] += 1;
         }
     }

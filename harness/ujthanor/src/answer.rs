@@ -19,6 +19,7 @@ pub enum Answer {
     Mismatch = 11,
     TooDeep = 12,
     Unmatched = 13,
+    /// Every tag matches, but the schema does not derive the page, or it has not exactly one outermost element.
     NotDerived = 14,
     NoSummary = 15,
     TooMany = 16,

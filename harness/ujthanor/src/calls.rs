@@ -1,4 +1,4 @@
-//! The six calls over slices: the answer is a number of the rules (docs/RULES.md, sections 9 and 13), a summary a row of 20 entries.
+//! The six calls over slices: the answer is a number of the rules (docs/RULES.md, sections 9 and 13), a summary a row of 21 entries.
 //!
 //! No call asks anything of its caller that safe Rust does not give. A slice is a pointer and a length; what a call writes is lent by
 //! `&mut`, so nothing else that it is lent overlaps it and no other thread touches it meanwhile.
@@ -28,7 +28,7 @@ pub struct Depth {
     pub depth: i32,
 }
 
-/// Is every page of the template set valid? The table needs 5,120 entries; what it holds before does not matter.
+/// Is every page of the template set valid? The table needs 5,376 entries; what it holds before does not matter.
 ///
 /// A file inside the table would be overwritten while it is read, and a broken set could pass. The borrow rules refuse it:
 ///
@@ -83,8 +83,8 @@ pub fn page(file: &[u8], bytes: &[u8]) -> Reply {
     Reply { answer, number }
 }
 
-/// The summary of a fragment, in the first 20 entries of the row. A row of fewer is refused with 17 and not written; entries past the
-/// 20th never change.
+/// The summary of a fragment, in the first 21 entries of the row. A row of fewer is refused with 17 and not written; entries past the
+/// 21st never change.
 pub fn fragment(file: &[u8], bytes: &[u8], row: &mut [u64]) -> Reply {
     let mut number = 0;
     // SAFETY: as in `check`.

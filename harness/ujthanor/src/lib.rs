@@ -18,12 +18,12 @@ pub use refusal::{Call, Number, Refusal};
 
 /// Rises by one whenever a public layout changes: a summary's row, the worktable, the template file, or the numbers of the answers.
 /// Store it with summaries that are kept, and make those anew that were stored with another. A new call and its own answers do not
-/// raise it. The header has the same number.
-pub const LAYOUT: u32 = 1;
+/// raise it. The header has the same number. Layout 1 had rows of 20 entries, without counts; such a row is now refused.
+pub const LAYOUT: u32 = 2;
 
 /// Entries of a worktable, and of a summary's row.
-pub const TABLE: usize = 5_120;
-pub const ROW: usize = 20;
+pub const TABLE: usize = 5_376;
+pub const ROW: usize = 21;
 
 /// The largest budget; with it a check never answers 5.
 pub const BUDGET: usize = 257;
@@ -69,8 +69,9 @@ pub fn check(file: &[u8], table: &mut [u64], budget: usize) -> Result<Pass, Refu
     told(Call::Check, r.answer, r.number, pass)
 }
 
-/// Is the page valid? `Ok` says so. [`Answer::TooDeep`] leaves it open: a valid page that nests deeper than 16 gets it, and no other
-/// refusal; the other refusals but [`Answer::BadFile`] say that it is not.
+/// Is the page valid: do its tags match, does the schema derive it, and has it exactly one outermost element? `Ok` says so.
+/// [`Answer::TooDeep`] leaves it open: a valid page that nests deeper than 16 gets it, and no other refusal; the other refusals but
+/// [`Answer::BadFile`] say that it is not.
 pub fn page(file: &[u8], bytes: &[u8]) -> Result<(), Refusal> {
     let r = calls::page(file, bytes);
     told(Call::Page, r.answer, r.number, ())
@@ -103,9 +104,9 @@ pub fn net_depth(file: &[u8], summary: &Summary) -> Result<i32, Refusal> {
 /// short:
 ///
 /// ```
-/// // one name, one nonterminal, one state, which is ending and takes any elements; the page is two empty elements in a row
+/// // one name, one nonterminal, one state, which is ending and takes any elements; the page is an element in an element
 /// let mut long = vec![1, 1, 1, 0, 16, 0, 1, 0, 30, 0, 1, 0, 34, 0, 1, 0];
-/// long.extend([0, 4, 0, 32, 0, 32, 255, 255, 255, 255, 255, 255, 255, 255]);
+/// long.extend([0, 4, 0, 0, 32, 32, 255, 255, 255, 255, 255, 255, 255, 255]);
 /// long.extend([0, 0, 0, 0, 0]);
 /// let mut out = [0; ujthanor::LONGEST];
 /// let length = ujthanor::split(&long, &mut out)?;

@@ -92,7 +92,7 @@ impl Refusal {
             NoPage => "This set can produce no page at all",
             BadFile => "There is a fault",
             BadBudget => "The budget is not from 1 to 257",
-            ShortTable => "The worktable has fewer than 5,120 entries",
+            ShortTable => "The worktable has fewer than 5,376 entries",
             NotATag => "Something other than a tag of the file's elements stands",
             Mismatch if join => {
                 "The second part's end tags do not match the first part's start tags"
@@ -101,7 +101,7 @@ impl Refusal {
             TooDeep if join => "The two parts together leave more than 16 tags unmatched",
             TooDeep => "More than 16 tags are unmatched",
             Unmatched => "Some of the page's tags are unmatched at its end",
-            NotDerived => "The page's tags match, but the schema does not allow the page",
+            NotDerived => "The page's tags match, but the schema does not allow it, or it has not exactly one outermost element",
             NoSummary if join => "One of the two summaries does not fit this template file",
             NoSummary => "The summary does not fit this template file",
             TooMany => {
@@ -110,7 +110,7 @@ impl Refusal {
             ShortRow if self.call == Call::Split => {
                 "The output is shorter than the file to be written"
             }
-            ShortRow => "The row for the summary has fewer than 20 entries",
+            ShortRow => "The row for the summary has fewer than 21 entries",
             Unknown => "The library gave an answer that has no name here",
         }
     }
@@ -141,7 +141,7 @@ impl Refusal {
             NoSummary => "Make it anew with this file",
             TooMany => "Shorten the longest rules, or make two sets of this one",
             ShortRow if self.call == Call::Split => "Lend 1,560 bytes, which are always enough",
-            ShortRow => "Lend one of 20",
+            ShortRow => "Lend one of 21",
             Unknown => "Use wrapper and archive of one release",
         }
     }

@@ -17,16 +17,16 @@ fn spelled(first: u8, tags: &[u8]) -> Vec<[u8; 4]> {
     rules
 }
 
-/// A set of one page: so many starts, then a part with as many ends and 8 starts, then 8 ends.
+/// A set of one page: in its outermost element so many starts, then a part with as many ends and 8 starts, then 8 ends.
 fn shut_and_opened(ends: usize) -> Vec<u8> {
     let part = [vec![END; ends], vec![START; 8]].concat();
-    let (before, middle) = (2, 2 + ends as u8);
+    let (before, middle) = (2, 3 + ends as u8);
     let after = middle + part.len() as u8;
     let mut rules = vec![[0, 2, 64 + 1, 64 + after], [1, 2, 64 + before, 64 + middle]];
-    rules.extend(spelled(before, &vec![START; ends]));
+    rules.extend(spelled(before, &vec![START; 1 + ends]));
     rules.extend(spelled(middle, &part));
-    rules.extend(spelled(after, &[END; 8]));
-    open(after + 8, &rules)
+    rules.extend(spelled(after, &[END; 8 + 1]));
+    open(after + 8 + 1, &rules)
 }
 
 fn answered(file: &[u8]) -> Result<Pass, Answer> {

@@ -103,7 +103,7 @@ fn sets_not_checked() {
     );
     says(
         check(&K, &mut vec![0; TABLE - 1], 1),
-        "The worktable has fewer than 5,120 entries.",
+        "The worktable has fewer than 5,376 entries.",
         "Lend a longer one.",
     );
 }
@@ -130,11 +130,13 @@ fn pages() {
         "Some of the page's tags are unmatched at its end.",
         "Add their partners, or take them away.",
     );
-    says(
-        page(&K, &[]),
-        "The page's tags match, but the schema does not allow the page.",
-        "Mend the page or the schema.",
-    );
+    for other in [&[][..], &[0, 32], &[0, 32, 1, 33]] {
+        says(
+            page(&K, other),
+            "The page's tags match, but the schema does not allow it, or it has not exactly one outermost element.",
+            "Mend the page or the schema.",
+        );
+    }
     says(
         page(&[], &[]),
         "There is a fault at byte 0 of the template file.",
@@ -163,8 +165,8 @@ fn fragments() {
     let short: Result<(), _> = Err(Refusal::of(Call::Fragment, r.answer, r.number));
     says(
         short,
-        "The row for the summary has fewer than 20 entries.",
-        "Lend one of 20.",
+        "The row for the summary has fewer than 21 entries.",
+        "Lend one of 21.",
     );
 }
 

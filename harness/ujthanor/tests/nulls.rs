@@ -37,7 +37,7 @@ fn page(file: &[u8]) -> (u32, u64) {
 #[test]
 fn pages() {
     assert_eq!(page(&K), (14, 0));
-    assert_eq!(page(&open(1, &[])), (0, 0));
+    assert_eq!(page(&open(1, &[])), (14, 0));
     let mut number = UNSET;
     // SAFETY: as in `checks`.
     let answers = unsafe {

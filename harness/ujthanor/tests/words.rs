@@ -2,7 +2,7 @@
 
 mod common;
 
-use common::{K, LONG};
+use common::{open, K, LONG};
 use ujthanor::{
     check, fragment, join, net_depth, page, split, Answer, Call, Number, Pass, Refusal, Summary,
 };
@@ -50,7 +50,17 @@ fn pages() {
     assert_eq!(page(&K, &[0, 33]), refused(Answer::Mismatch, 1));
     assert_eq!(page(&K, &[0; 17]), refused(Answer::TooDeep, 16));
     assert_eq!(page(&K, &[0]), refused(Answer::Unmatched, 0));
-    assert_eq!(page(&K, &[1, 33, 1, 33]), refused(Answer::NotDerived, 0));
+    assert_eq!(page(&K, &[0, 32]), refused(Answer::NotDerived, 0));
+    // What the schema takes, but no one element: nothing, or several side by side.
+    assert_eq!(page(&K, &[0, 32, 1, 33]), refused(Answer::NotDerived, 0));
+    let open = open(1, &[]);
+    for elements in 0..4 {
+        let told = match elements {
+            1 => Ok(()),
+            _ => refused(Answer::NotDerived, 0),
+        };
+        assert_eq!(page(&open, &[0, 32].repeat(elements)), told);
+    }
 }
 
 /// A valid page that nests so deep: a in a, and innermost a b.
@@ -80,8 +90,13 @@ fn cached_parts() {
     let other = fragment(&K, &[32]).unwrap();
     let refused = |answer| refused(Call::Join, answer, 0);
     assert_eq!(join(&K, &head, &other), refused(Answer::Mismatch));
+    let counted = |bytes: &[u8]| fragment(&K, bytes).unwrap().0[ROW - 1];
+    assert_eq!([&[][..], &[0, 32], &[0, 32, 1, 33]].map(counted), [0, 1, 2]);
     let none = Summary([1; ROW]);
     assert_eq!(join(&K, &head, &none), refused(Answer::NoSummary));
+    let mut three = head;
+    three.0[ROW - 1] = 3;
+    assert_eq!(join(&K, &three, &tail), refused(Answer::NoSummary));
     let told = net_depth(&K, &none).unwrap_err();
     assert_eq!(
         (told.call, told.answer),

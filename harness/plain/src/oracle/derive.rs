@@ -1,6 +1,6 @@
 //! What the states of a schema derive, by its rules alone.
 
-use super::words::Balanced;
+use super::words::{is_one_element, outermost, Balanced};
 use crate::file::File;
 use std::collections::HashMap;
 
@@ -63,26 +63,27 @@ impl<'a> Derivations<'a> {
     }
 }
 
-/// Whether a page is valid: balanced, and derived by state 0.
+/// Whether a page is valid: balanced, derived by state 0, and one element.
 pub fn valid(file: &File, page: &[u8]) -> bool {
     Balanced::of(page).holds(0, page.len())
         && Derivations::new(file, page).part(0, 0, page.len(), None)
+        && is_one_element(page)
 }
 
-/// The summary of a word that is not mismatched: its unmatched tags and the relations of the
-/// balanced strings before, between and after them.
-pub fn summary(file: &File, word: &[u8]) -> (Vec<u8>, Vec<u64>) {
+/// What a summary has of each balanced string: its relation, and its outermost elements, 2 for two and for more.
+pub type Piece = (u64, usize);
+
+/// The summary of a word that is not mismatched: its unmatched tags, and what it has of the balanced strings before, between and
+/// after them.
+pub fn summary(file: &File, word: &[u8]) -> (Vec<u8>, Vec<Piece>) {
     let kept = super::words::reduced(word);
     let mut derivations = Derivations::new(file, word);
-    let mut relations = Vec::new();
+    let mut pieces = Vec::new();
     let mut from = 0;
-    for &place in &kept {
-        relations.push(derivations.relation(from, place));
-        from = place + 1;
+    for to in kept.iter().copied().chain([word.len()]) {
+        let elements = outermost(&word[from..to]).len();
+        pieces.push((derivations.relation(from, to), elements.min(2)));
+        from = to + 1;
     }
-    relations.push(derivations.relation(from, word.len()));
-    (
-        kept.into_iter().map(|place| word[place]).collect(),
-        relations,
-    )
+    (kept.into_iter().map(|place| word[place]).collect(), pieces)
 }

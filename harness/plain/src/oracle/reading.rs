@@ -1,6 +1,6 @@
 //! What reading a page or fragment must answer, by looking at each of its beginnings.
 
-use super::derive::{summary, valid};
+use super::derive::{summary, valid, Piece};
 use super::words::{mismatched, reduced, Balanced};
 use crate::file::File;
 use crate::{Row, ROW};
@@ -39,13 +39,13 @@ pub fn fragment(file: &File, bytes: &[u8]) -> (u32, u64, Row) {
     if let Some((answer, number)) = refusal(file, bytes) {
         return (answer, number, [0; ROW]);
     }
-    let (tags, relations) = summary(file, bytes);
-    (0, 0, row(0, &tags, &relations))
+    let (tags, pieces) = summary(file, bytes);
+    (0, 0, row(0, &tags, &pieces))
 }
 
 /// The row of a nonterminal with a summary of at most 16 tags, place by place as section 10 of the
 /// rules lists them.
-pub fn row(nonterminal: usize, tags: &[u8], relations: &[u64]) -> Row {
+pub fn row(nonterminal: usize, tags: &[u8], pieces: &[Piece]) -> Row {
     let starts = tags.iter().filter(|&&tag| tag < 32).count();
     let ends = tags.len() - starts;
     let mut row = [0; ROW];
@@ -53,8 +53,9 @@ pub fn row(nonterminal: usize, tags: &[u8], relations: &[u64]) -> Row {
     for (i, &tag) in tags.iter().enumerate() {
         row[1 + i / 8] += (tag as u64 % 32) * 256u64.pow(i as u32 % 8);
     }
-    for (i, &relation) in relations.iter().enumerate() {
+    for (i, &(relation, count)) in pieces.iter().enumerate() {
         row[3 + i] = relation;
+        row[20] += count as u64 * 4u64.pow(i as u32);
     }
     row
 }

@@ -1,13 +1,13 @@
 //! What a check must answer, by looking at the strings of all trees, height by height.
 
-use super::derive::{summary, valid};
+use super::derive::{summary, valid, Piece};
 use super::trees::{useful, Cap, Strings};
 use super::words::{mismatched, reduced};
 use crate::file::File;
 use std::collections::{BTreeSet, HashMap};
 
 /// A nonterminal with a summary.
-pub type Image = (usize, Vec<u8>, Vec<u64>);
+pub type Image = (usize, Vec<u8>, Vec<Piece>);
 
 /// What is known of a string, so that it is judged once only.
 #[derive(Clone)]
@@ -15,7 +15,7 @@ struct Judged {
     mismatched: bool,
     deep: bool,
     valid: bool,
-    summary: (Vec<u8>, Vec<u64>),
+    summary: (Vec<u8>, Vec<Piece>),
 }
 
 fn judge(file: &File, word: &[u8]) -> Judged {
@@ -76,8 +76,8 @@ fn look(
             if judged.deep {
                 events.insert(3);
             }
-            let (tags, relations) = judged.summary.clone();
-            images.insert((n, tags, relations));
+            let (tags, pieces) = judged.summary.clone();
+            images.insert((n, tags, pieces));
         }
     }
     if images.len() > 256 {

@@ -1,4 +1,4 @@
-//! Words of tags: balanced, mismatched, reduced, nested.
+//! Words of tags: balanced, mismatched, reduced, nested; their outermost elements.
 
 /// Whether a byte is a start tag.
 pub fn is_start(tag: u8) -> bool {
@@ -36,6 +36,24 @@ impl Balanced {
     pub fn holds(&self, i: usize, j: usize) -> bool {
         self.table[i * self.size + j]
     }
+}
+
+/// Whether a word is one element: a start tag, a balanced string, and the end tag of that start's name.
+pub fn is_one_element(word: &[u8]) -> bool {
+    match word {
+        [start, inside @ .., end] => {
+            is_start(*start) && *end == start + 32 && Balanced::of(inside).holds(0, inside.len())
+        }
+        _ => false,
+    }
+}
+
+/// The places where the outermost elements of a balanced word begin: the start tags with a balanced string before them.
+pub fn outermost(word: &[u8]) -> Vec<usize> {
+    let balanced = Balanced::of(word);
+    (0..word.len())
+        .filter(|&place| is_start(word[place]) && balanced.holds(0, place))
+        .collect()
 }
 
 /// Whether somewhere the end tag behind a start tag and a balanced string has another name.

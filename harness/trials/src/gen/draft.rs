@@ -1,7 +1,8 @@
 //! A template file in the making. Writing it sorts the bodies and drops what is there twice or past
 //! the limits, so that every draft within its own numbers is a sound file.
 
-use plain::file::{Wide, LONG_RULE, RULE};
+use plain::file::{rule, Wide, LONG_RULE, RULE};
+use plain::NONTERMINALS;
 
 /// A draft whose template rules have W bytes.
 #[derive(Clone, Debug)]
@@ -42,6 +43,29 @@ impl<const W: usize> WideDraft<W> {
             ..*self
         })
     }
+}
+
+impl Draft {
+    /// The draft whose pages are these with one element around each, where there is room for two nonterminals more. Under a schema
+    /// whose state 0 takes every element, what was balanced is then a valid page.
+    pub fn inside(mut self, name: u8) -> Draft {
+        if self.nonterminals as usize + 2 > NONTERMINALS {
+            return self;
+        }
+        self.nonterminals += 2;
+        self.rules = self.rules.iter().map(|rule| shifted(*rule, 2)).collect();
+        self.rules.extend([
+            rule(0, &[start(name), nonterminal(1)]),
+            rule(1, &[nonterminal(2), end(name)]),
+        ]);
+        self
+    }
+}
+
+/// A rule with each of its nonterminals numbered so much higher.
+pub fn shifted(rule: [u8; RULE], by: u8) -> [u8; RULE] {
+    let symbol = |s: u8| if (64..128).contains(&s) { s + by } else { s };
+    [rule[0] + by, rule[1], symbol(rule[2]), symbol(rule[3])]
 }
 
 /// The file of a draft as it stands, sound or not.

@@ -1,20 +1,23 @@
 //! Sound files that reach the limits: depth, images, rounds, counts.
 
-use super::draft::{nonterminal, Draft};
+use super::draft::{end, nonterminal, start, Draft};
 use super::{named, numbers, schemas, typed};
 use plain::file::rule;
+use plain::{NONTERMINALS, RULES};
 use seeds::Rng;
 
-/// Elements in elements without end, under few nonterminals: their pages nest past 16.
+/// Elements in elements without end, under few nonterminals: a page is one of them, and nests past 16.
 pub fn nested(rng: &mut Rng) -> Draft {
     let mut draft = numbers::any(rng);
     let kinds = draft.names.min(rng.byte(1, 3));
     draft.nonterminals = 1 + 2 * kinds;
-    draft.rules = vec![rule(0, &[])];
     for a in 0..kinds {
         let (open, inside) = (1 + 2 * a, 2 + 2 * a);
-        draft.rules.push(rule(0, &[nonterminal(open), 32 + a]));
-        draft.rules.push(rule(open, &[a, nonterminal(inside)]));
+        draft.rules.push(rule(0, &[nonterminal(open), end(a)]));
+        draft
+            .rules
+            .push(rule(open, &[start(a), nonterminal(inside)]));
+        draft.rules.push(rule(inside, &[]));
         draft.rules.push(rule(inside, &[nonterminal(0)]));
         draft.rules.push(rule(
             inside,
@@ -25,7 +28,8 @@ pub fn nested(rng: &mut Rng) -> Draft {
     draft
 }
 
-/// Few nonterminals that repeat many elements of different relations: many images in few rounds.
+/// Few nonterminals that repeat many elements of different relations: many images in few rounds. Mostly all of it stands inside one
+/// element, else a page of two is met before the crowd.
 pub fn crowd(rng: &mut Rng) -> Draft {
     let mut draft = numbers::any(rng);
     draft.names = rng.byte(2, 8);
@@ -41,19 +45,25 @@ pub fn crowd(rng: &mut Rng) -> Draft {
     let choices = rng.byte(1, draft.names);
     draft
         .rules
-        .extend((0..choices).map(|a| rule(last, &[a, 32 + a])));
+        .extend((0..choices).map(|a| rule(last, &[start(a), end(a)])));
     schemas::lenient(&mut draft, rng);
-    draft
+    match rng.once_in(8) {
+        true => draft,
+        false => draft.inside(0),
+    }
 }
 
-/// All counts at their limits: 256 rules, 128 schema rules, all states ending.
+/// All counts at their limits: 256 rules, 128 schema rules, all states ending. Two nonterminals and rules mostly put an element around.
 pub fn full(rng: &mut Rng) -> Draft {
     let mut draft = numbers::any(rng);
-    (draft.names, draft.nonterminals, draft.states) = (32, 64, 8);
+    let bare = rng.once_in(4);
+    let around = if bare { 0 } else { 2 };
+    (draft.names, draft.nonterminals, draft.states) = (32, NONTERMINALS as u8 - around, 8);
     if rng.once_in(2) {
         typed::rules(&mut draft, 6, rng);
     }
-    fill_rules(&mut draft, rng);
+    fill_rules(&mut draft, RULES - around as usize, rng);
+    let mut draft = draft.inside(0);
     schemas::lenient(&mut draft, rng);
     while distinct(&draft.schema) < 128 {
         let state = |rng: &mut Rng| rng.byte(0, 7);
@@ -65,16 +75,17 @@ pub fn full(rng: &mut Rng) -> Draft {
     draft
 }
 
-/// Chains and empty strings until there are 256 different rules; the start is reached by all.
-fn fill_rules(draft: &mut Draft, rng: &mut Rng) {
-    while distinct(&draft.rules) < 256 {
-        let left = rng.byte(0, 63);
-        let right = nonterminal(rng.byte(0, 63));
+/// Chains, elements and empty strings until there are so many different rules.
+fn fill_rules(draft: &mut Draft, count: usize, rng: &mut Rng) {
+    let last = draft.nonterminals - 1;
+    while distinct(&draft.rules) < count {
+        let left = rng.byte(0, last);
+        let right = nonterminal(rng.byte(0, last));
         let rule = match rng.below(4) {
             0 => rule(left, &[]),
             1 => rule(left, &[right]),
-            2 => rule(left, &[right, nonterminal(rng.byte(0, 63))]),
-            _ => rule(left, &[left % 32, 32 + left % 32]),
+            2 => rule(left, &[right, nonterminal(rng.byte(0, last))]),
+            _ => rule(left, &[start(left % 32), end(left % 32)]),
         };
         draft.rules.push(rule);
     }

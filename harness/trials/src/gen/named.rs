@@ -107,6 +107,25 @@ pub fn chain(length: u8, choices: u8, nothing: bool) -> Draft {
     }
 }
 
+/// Pages of two elements side by side.
+pub fn pair() -> Draft {
+    let one = nonterminal(1);
+    free(2, vec![rule(0, &[one, one]), rule(1, &[start(0), end(0)])])
+}
+
+/// A chain of nonterminals; the last gives nothing, one element or two, which differ in their counts alone.
+pub fn row(length: u8) -> Draft {
+    let (last, one) = (length - 1, nonterminal(length));
+    let mut rules: Vec<_> = (0..last).map(|n| rule(n, &[nonterminal(n + 1)])).collect();
+    rules.extend([
+        rule(last, &[]),
+        rule(last, &[one]),
+        rule(last, &[one, one]),
+        rule(length, &[start(0), end(0)]),
+    ]);
+    free(length + 1, rules)
+}
+
 /// A ring of nonterminals that gives one new image a round: each time around wraps one element more
 /// (its start at `open`, its end at `shut`), and the relation comes back after `period` times. It
 /// passes in round length·period + 1, or is crowded in round 257.
@@ -169,6 +188,9 @@ pub fn all() -> Vec<Named> {
         of("chain, 65 rounds", chain(64, 4, false), 65, (0, 65, 256)),
         of("chain, 64 rounds", chain(64, 4, false), 64, (5, 64, 0)),
         of("chain with nothing", chain(64, 4, true), 64, (4, 52, 0)),
+        of("pair", pair(), 64, (2, 2, 0)),
+        of("row", row(61), 257, (2, 61, 0)),
+        of("row in an element", row(61).inside(0), 257, (0, 64, 188)),
         of("ladder of 16", ladder(16), 257, (0, 18, 33)),
         of("ladder of 17", ladder(17), 257, (3, 17, 0)),
         of("deep start", deep_start(9, 8), 257, (2, 10, 0)),

@@ -1,4 +1,4 @@
-//! Pages and fragments: valid, nearly valid, deep, random.
+//! Pages and fragments: valid, nearly valid, derived with no or several outermost elements, deep, random.
 
 use super::sample::Sampler;
 use seeds::Rng;
@@ -6,14 +6,15 @@ use seeds::Rng;
 /// A page or fragment of any kind for a file with `names` names; samples come from the sampler
 /// where the file is sound.
 pub fn any(names: u8, sampler: Option<&Sampler>, rng: &mut Rng) -> Vec<u8> {
-    match rng.below(12) {
+    match rng.below(13) {
         0 | 1 => sampled(sampler, rng).unwrap_or_else(|| walk(names, rng)),
-        2 | 3 => derived(sampler, rng).unwrap_or_else(|| walk(names, rng)),
-        4 | 5 => nearly(names, sampler, rng),
-        6 => deep(names, rng),
-        7 => tags(names, rng),
-        8 => cut(names, sampler, rng),
-        9 => {
+        2 | 3 => valid(sampler, rng).unwrap_or_else(|| walk(names, rng)),
+        4 => derived(sampler, rng).unwrap_or_else(|| walk(names, rng)),
+        5 | 6 => nearly(names, sampler, rng),
+        7 => deep(names, rng),
+        8 => tags(names, rng),
+        9 => cut(names, sampler, rng),
+        10 => {
             let length = rng.below(12);
             rng.bytes(length)
         }
@@ -28,16 +29,22 @@ fn sampled(sampler: Option<&Sampler>, rng: &mut Rng) -> Option<Vec<u8>> {
     sampler.and_then(|s| s.any_string(n, fuel, rng))
 }
 
-/// A valid page of the schema.
-fn derived(sampler: Option<&Sampler>, rng: &mut Rng) -> Option<Vec<u8>> {
+/// A valid page.
+fn valid(sampler: Option<&Sampler>, rng: &mut Rng) -> Option<Vec<u8>> {
     let fuel = rng.pick(&[0, 2, 6, 20, 60]);
     sampler.and_then(|s| s.valid_page(fuel, rng))
+}
+
+/// What the schema derives, with any number of outermost elements.
+fn derived(sampler: Option<&Sampler>, rng: &mut Rng) -> Option<Vec<u8>> {
+    let fuel = rng.pick(&[0, 1, 2, 3, 6, 20]);
+    sampler.and_then(|s| s.derived(fuel, rng))
 }
 
 /// A sample with one tag changed, dropped, doubled or swapped with the next.
 fn nearly(names: u8, sampler: Option<&Sampler>, rng: &mut Rng) -> Vec<u8> {
     let page = if rng.once_in(2) {
-        derived(sampler, rng)
+        valid(sampler, rng)
     } else {
         sampled(sampler, rng)
     };
@@ -93,7 +100,7 @@ fn tags(names: u8, rng: &mut Rng) -> Vec<u8> {
 
 /// A part of a sample.
 fn cut(names: u8, sampler: Option<&Sampler>, rng: &mut Rng) -> Vec<u8> {
-    let page = derived(sampler, rng).unwrap_or_else(|| walk(names, rng));
+    let page = valid(sampler, rng).unwrap_or_else(|| walk(names, rng));
     let from = rng.within(0, page.len());
     let to = rng.within(from, page.len());
     page[from..to].to_vec()

@@ -1,7 +1,7 @@
 //! Rows lent as summaries: true ones, well-formed ones that no fragment has, broken ones.
 
 use super::pages;
-use plain::ROW;
+use plain::{DEEPEST, ROW};
 use seeds::Rng;
 
 /// The numbers of a sound file, and its bytes.
@@ -31,7 +31,14 @@ pub fn real(under: Under, rng: &mut Rng) -> Vec<u64> {
     row
 }
 
-/// A well-formed row with names and relations at random.
+/// Where a row has its relations, and the entry of their counts.
+const RELATIONS: usize = 3;
+const COUNTS: usize = ROW - 1;
+
+/// A relation and its count.
+type Piece = (u64, u64);
+
+/// A well-formed row with names, relations and counts at random.
 pub fn invented(under: Under, rng: &mut Rng) -> Vec<u64> {
     let tags = rng.pick(&[0, 1, 2, 5, 8, 9, 12, 15, 16]);
     let ends = match rng.below(4) {
@@ -45,8 +52,7 @@ pub fn invented(under: Under, rng: &mut Rng) -> Vec<u64> {
         under.names
     };
     let names: Vec<u8> = (0..tags).map(|_| rng.byte(0, few - 1)).collect();
-    let relations: Vec<u64> = (0..=tags).map(|_| relation(under.states, rng)).collect();
-    row(ends, &names, &relations)
+    row(ends, &names, &pieces(under, tags, rng))
 }
 
 /// A right summary whose ends answer the starts of `left`, all or nearly all.
@@ -62,23 +68,29 @@ pub fn answering(under: Under, left: &[u64], rng: &mut Rng) -> Vec<u64> {
         2 => names.extend((0..rng.below(5)).map(|_| rng.byte(0, under.names - 1))),
         _ => {}
     }
-    names.truncate(16);
+    names.truncate(DEEPEST);
     let ends = names.len();
-    let starts = rng.pick(&[0, 0, 1, 3, 16]).min(16 - ends);
+    let starts = rng.pick(&[0, 0, 1, 3, DEEPEST]).min(DEEPEST - ends);
     names.extend((0..starts).map(|_| rng.byte(0, under.names - 1)));
-    let relations: Vec<u64> = (0..=names.len())
-        .map(|_| relation(under.states, rng))
-        .collect();
-    row(ends, &names, &relations)
+    row(ends, &names, &pieces(under, names.len(), rng))
 }
 
 /// The ends and all names of a row, as far as it has them.
 fn names_of(row: &[u64]) -> (usize, Vec<u8>) {
     let at = |i: usize| row.get(i).copied().unwrap_or(0);
-    let ends = (at(0) >> 8 & 255).min(16) as usize;
-    let tags = (ends as u64).saturating_add(at(0) >> 16).min(16) as usize;
+    let deepest = DEEPEST as u64;
+    let ends = (at(0) >> 8 & 255).min(deepest);
+    let tags = ends.saturating_add(at(0) >> 16).min(deepest) as usize;
+    let ends = ends as usize;
     let names = [at(1).to_le_bytes(), at(2).to_le_bytes()].concat();
     (ends, names[..tags].to_vec())
+}
+
+/// One piece more than tags. Counts and relations need not fit together.
+fn pieces(under: Under, tags: usize, rng: &mut Rng) -> Vec<Piece> {
+    (0..=tags)
+        .map(|_| (relation(under.states, rng), rng.below(3) as u64))
+        .collect()
 }
 
 /// A relation below Q: any, few pairs, many pairs, the empty string's, none.
@@ -99,18 +111,21 @@ fn within(states: u8) -> u64 {
     (0..states).fold(0, |sum, x| sum | row << (8 * x))
 }
 
-fn row(ends: usize, names: &[u8], relations: &[u64]) -> Vec<u64> {
+fn row(ends: usize, names: &[u8], pieces: &[Piece]) -> Vec<u64> {
     let mut row = vec![0; ROW];
     row[0] = 256 * ends as u64 + 65_536 * (names.len() - ends) as u64;
     for (i, &name) in names.iter().enumerate() {
         row[1 + i / 8] |= (name as u64) << (8 * (i % 8));
     }
-    row[3..3 + relations.len()].copy_from_slice(relations);
+    for (i, &(relation, count)) in pieces.iter().enumerate() {
+        row[RELATIONS + i] = relation;
+        row[COUNTS] |= count << (2 * i);
+    }
     row
 }
 
 /// The ways in which a row can be no summary.
-pub const WAYS: usize = 13;
+pub const WAYS: usize = 17;
 
 /// A row that is no summary, in any way.
 pub fn broken(under: Under, rng: &mut Rng) -> Vec<u64> {
@@ -125,18 +140,17 @@ pub fn broken_by(way: usize, under: Under, rng: &mut Rng) -> Vec<u64> {
     } else {
         invented(under, rng)
     };
-    let (_, names) = names_of(&row);
-    let tags = names.len();
+    let tags = names_of(&row).1.len();
     match way {
         0 => name_too_big(&mut row, tags, under.names, rng),
-        1 => row[0] += rng.within(17 - tags, 20) as u64 * 65_536,
-        2 => row[0] += rng.within(17 - tags, 20) as u64 * 256,
-        3 => row[3 + rng.within(0, tags)] |= outside(under.states, rng),
-        4 if tags < 16 => {
-            let at = rng.within(tags, 15);
+        1 => row[0] += rng.within(DEEPEST + 1 - tags, 20) as u64 * 65_536,
+        2 => row[0] += rng.within(DEEPEST + 1 - tags, 20) as u64 * 256,
+        3 => row[RELATIONS + rng.within(0, tags)] |= outside(under.states, rng),
+        4 if tags < DEEPEST => {
+            let at = rng.within(tags, DEEPEST - 1);
             row[1 + at / 8] |= 1 << (8 * (at % 8) + rng.below(8));
         }
-        5 if tags < 16 => row[3 + rng.within(tags + 1, 16)] |= 1 << rng.below(64),
+        5 if tags < DEEPEST => row[RELATIONS + rng.within(tags + 1, DEEPEST)] |= 1 << rng.below(64),
         6 => row[0] += rng.within(1, 255) as u64,
         7 => drop(row.pop()),
         8 => row.push(0),
@@ -146,13 +160,22 @@ pub fn broken_by(way: usize, under: Under, rng: &mut Rng) -> Vec<u64> {
         }
         // Starts that are well-formed in their lower bits alone.
         10 => row[0] |= 1 << rng.within(21, 63),
-        11 => row = rng.entries(20),
-        _ => {
-            let length = rng.below(41);
-            row.resize(length, 0);
-        }
+        11 => row = rng.entries(ROW),
+        12..=15 => row[COUNTS] |= miscount(way - 12, tags, rng),
+        _ => row.resize(rng.below(2 * ROW), 0),
     }
     row
+}
+
+/// A count of 3, a count at an unused place where there is one, and bits behind the last place: one of them, or all.
+fn miscount(way: usize, tags: usize, rng: &mut Rng) -> u64 {
+    const BEHIND: usize = 2 * (DEEPEST + 1);
+    match way {
+        0 => 3 << (2 * rng.within(0, tags)),
+        1 if tags < DEEPEST => (rng.within(1, 3) as u64) << (2 * rng.within(tags + 1, DEEPEST)),
+        2 => 1 << rng.within(BEHIND, 63),
+        _ => u64::MAX << BEHIND,
+    }
 }
 
 fn name_too_big(row: &mut [u64], tags: usize, names: u8, rng: &mut Rng) {

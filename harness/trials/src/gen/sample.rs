@@ -1,4 +1,4 @@
-//! Strings sampled from a file's grammar, and pages sampled from its schema.
+//! Strings sampled from a file's grammar, and from its schema: valid pages, and what has not one outermost element.
 
 use plain::file::File;
 use seeds::Rng;
@@ -129,11 +129,35 @@ impl<'a> Sampler<'a> {
         rng.pick(&rules)
     }
 
-    /// A valid page of the schema, none where state 0 derives nothing.
+    /// A valid page: one element that state 0 derives by itself. None where there is none.
     pub fn valid_page(&self, fuel: usize, rng: &mut Rng) -> Option<Vec<u8>> {
+        let alone = |r: &&[u8; 4]| {
+            r[0] == 0
+                && self.state_height[r[2] as usize].is_some()
+                && self.file.ending.contains(&r[3])
+        };
+        let rules: Vec<&[u8; 4]> = self.file.schema.iter().filter(alone).collect();
+        if rules.is_empty() {
+            return None;
+        }
+        let &[_, a, y, _] = rng.pick(&rules);
+        let mut page = vec![a];
+        self.content(y, &mut { fuel }, &mut page, rng);
+        page.push(32 + a);
+        Some(page)
+    }
+
+    /// What state 0 derives, short elements side by side, about `fuel` of them at most; none where it derives nothing.
+    pub fn derived(&self, mut fuel: usize, rng: &mut Rng) -> Option<Vec<u8>> {
         self.state_height[0]?;
-        let mut page = Vec::new();
-        self.content(0, &mut { fuel }, &mut page, rng);
+        let (mut state, mut page) = (0, Vec::new());
+        while let Some([_, a, y, z]) = self.element(state, fuel, rng) {
+            fuel = fuel.saturating_sub(1);
+            page.push(a);
+            self.content(y, &mut rng.below(2), &mut page, rng);
+            page.push(32 + a);
+            state = z;
+        }
         Some(page)
     }
 

@@ -1,6 +1,6 @@
 //! Sound template files of many shapes.
 
-use super::draft::{nonterminal, Draft};
+use super::draft::{nonterminal, shifted, Draft};
 use super::{limits, named, numbers, schemas, typed};
 use plain::file::rule;
 use seeds::Rng;
@@ -69,7 +69,7 @@ fn wild(rng: &mut Rng) -> Draft {
     draft
 }
 
-/// Typed, under a schema that takes all: passes or is crowded.
+/// Typed, under a schema that takes all: passes or is crowded, if its pages are one element.
 fn passing(rng: &mut Rng) -> Draft {
     let mut draft = numbers::any(rng);
     typed::rules(&mut draft, 4, rng);
@@ -103,7 +103,7 @@ fn barren(rng: &mut Rng) -> Draft {
     draft
 }
 
-/// Two drafts side by side under one start and one schema, so that their events meet in one file.
+/// Two drafts side by side under one start and one schema, so that their events meet in one file; mostly inside one element.
 fn merged(rng: &mut Rng) -> Draft {
     let one = part(rng);
     let two = part(rng);
@@ -128,7 +128,10 @@ fn merged(rng: &mut Rng) -> Draft {
         .rules
         .extend(two.rules.iter().map(|rule| shifted(*rule, second)));
     schemas::lenient(&mut draft, rng);
-    draft
+    match rng.once_in(3) {
+        true => draft,
+        false => draft.inside(0),
+    }
 }
 
 fn part(rng: &mut Rng) -> Draft {
@@ -140,9 +143,4 @@ fn part(rng: &mut Rng) -> Draft {
         3 => limits::crowd(rng),
         _ => passing(rng),
     }
-}
-
-fn shifted(rule: [u8; 4], by: u8) -> [u8; 4] {
-    let symbol = |s: u8| if (64..128).contains(&s) { s + by } else { s };
-    [rule[0] + by, rule[1], symbol(rule[2]), symbol(rule[3])]
 }

@@ -1,16 +1,16 @@
 //! Lengths of tables, rows and outputs, and budgets.
 
-use plain::{LONGEST, TABLE};
+use plain::{IMAGES, LONGEST, ROW, TABLE};
 use seeds::Rng;
 
-/// Mostly a little more than needed.
+/// Mostly a little more than needed; once in a while what rows of an entry less would need.
 pub fn table(rng: &mut Rng) -> usize {
     match rng.below(40) {
-        0 => 0,
-        1 => 1,
-        2 => rng.within(2, 5_099),
-        3 | 4 => rng.within(5_100, 5_140),
-        5 => rng.within(5_141, 12_000),
+        0 => rng.below(2),
+        1 => TABLE - IMAGES,
+        2 => rng.within(2, TABLE - 1),
+        3 | 4 => rng.within(TABLE - ROW, TABLE + ROW),
+        5 => rng.within(TABLE + 1, 3 * TABLE),
         6 => 2 * TABLE,
         7..=12 => TABLE,
         _ => TABLE + rng.within(1, 25),
@@ -30,13 +30,13 @@ pub fn budget(rng: &mut Rng) -> usize {
     }
 }
 
-/// The length of a row lent for writing, from 0 to 40.
+/// The length of a row lent for writing, up to twice what is needed.
 pub fn row(rng: &mut Rng) -> usize {
     match rng.below(12) {
-        0 => rng.within(0, 19),
-        1 => 19,
-        2..=4 => rng.within(21, 40),
-        _ => 20,
+        0 => rng.below(ROW),
+        1 => ROW - 1,
+        2..=4 => rng.within(ROW + 1, 2 * ROW),
+        _ => ROW,
     }
 }
 
