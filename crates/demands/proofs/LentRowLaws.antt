@@ -10,7 +10,7 @@ use Rattle.pieces.specs.Pieces.{pieceAt}
 use Rattle.form.specs.declared.Summary.{Summary}
 use Rattle.summary.specs.Packing.{zeros}
 use Rattle.summary.specs.Answers.{fragmentAnswer, joinAnswer}
-use Rattle.worktable.specs.Packed.{rowWidth, listed, digitsIn, packed}
+use Rattle.worktable.specs.Packed.{rowWidth, numbersFrom, digitsIn, packed}
 use Rattle.worktable.proofs.PackedLaws.{packed-length}
 use Rattle.ujthanor.specs.LentRows.{written}
 use Rattle.ujthanor.proofs.CallLaws.{Made, fragment-made, join-made}
@@ -22,7 +22,7 @@ use Rattle.demands.proofs.WorktableLaws.{fronted-rest, fronted-length}
 -- ---- the row of a reply's summary
 
 zero-row : packed 0 zeros ≡ replicate rowWidth 0
-unfolding packed listed digitsIn pieceAt zeros
+unfolding packed numbersFrom digitsIn pieceAt zeros
 zero-row = refl
 
 row-long : (a : ℕ) (s : Summary) → Made a s → length (packed 0 s) ≡ rowWidth

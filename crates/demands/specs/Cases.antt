@@ -37,8 +37,8 @@ pub data Case : Type 0 where
   refused : List ℕ → List ℕ → ℕ → ℕ → Case
 
 -- the numbers of ends and starts, the names of the tags, and the pieces: each relation, and behind it its count of outermost elements
-abbrev pub Shows : Summary → ℕ → ℕ → List ℕ → List ℕ → Type 0
-Shows s ends starts names pieces =
+abbrev pub ShowsSummary : Summary → ℕ → ℕ → List ℕ → List ℕ → Type 0
+ShowsSummary s ends starts names pieces =
     (s .counts .ends ≡ ends) × (s .counts .starts ≡ starts) × (take (tagCount (s .counts)) (s .names) ≡ names)
     × (take (suc (tagCount (s .counts)) * pieceLong) (s .values) ≡ pieces)
 
@@ -46,13 +46,13 @@ Shows s ends starts names pieces =
 abbrev pub CaseHolds : Case → Type 0
 CaseHolds (page bytes a n) = (r : PageReply) → PageSays K bytes r → (answer r ≡ a) × (number r ≡ n)
 CaseHolds (fragment bytes ends starts names pieces) =
-    (r : FragmentReply) → FragmentSays K bytes r → (fragmentAnswer (r .answer) ≡ 0) × Shows (r .summary) ends starts names pieces
+    (r : FragmentReply) → FragmentSays K bytes r → (fragmentAnswer (r .answer) ≡ 0) × ShowsSummary (r .summary) ends starts names pieces
 CaseHolds (depth bytes z) =
     (r : FragmentReply) (d : DepthReply) → FragmentSays K bytes r → DepthSays K (r .summary) d
     → (fragmentAnswer (r .answer) ≡ 0) × (depthAnswer d ≡ 0) × (netDepth d ≡ z)
 CaseHolds (joined u v ends starts names pieces) =
     (r s : FragmentReply) (j : JoinReply) → FragmentSays K u r → FragmentSays K v s → JoinSays K (r .summary) (s .summary) j
-    → (joinAnswer (j .answer) ≡ 0) × Shows (j .summary) ends starts names pieces
+    → (joinAnswer (j .answer) ≡ 0) × ShowsSummary (j .summary) ends starts names pieces
 CaseHolds (refused u v a n) =
     (r s : FragmentReply) (j : JoinReply) → FragmentSays K u r → FragmentSays K v s → JoinSays K (r .summary) (s .summary) j
     → (joinAnswer (j .answer) ≡ a) × (joinNumber (j .answer) ≡ n)

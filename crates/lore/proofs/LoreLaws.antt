@@ -25,7 +25,7 @@ use Rattle.numbers.proofs.BitLaws.{number-lt, number-ext, number-or, bit-number
 use Rattle.hedge.proofs.RelationLaws.{relation-cong, relation-none, relation-one, relation-or}
 use Rattle.hedge.proofs.LaneLaws.{number-none}
 use Rattle.lore.specs.Lore.{loreHead, loreLong, marked, reads, outer, placeOf, zeros, NamesBelow, Masks, Taught, IsLore}
-use Rattle.lore.specs.Lore.{endingsIn, meets, partOf, joined, taughtWrap, taughtAccepts}
+use Rattle.lore.specs.Lore.{endingBits, meets, metEntry, joined, taughtWrap, taughtAccepts}
 use Rattle.lore.proofs.TaughtLaws.{unnamed-entry, lore-few, lore-empty}
 
 -- ---- the ending states as bits
@@ -221,7 +221,7 @@ module _ (K : ℕ) (lore : List ℕ) (a r : ℕ) where
   unfolding joined
   joined-none = refl
 
-  pub joined-next : (y p t : ℕ) → p ≡ joined K lore a r y → t ≡ partOf K lore a r y → bitOr p t ≡ joined K lore a r (y + 1)
+  pub joined-next : (y p t : ℕ) → p ≡ joined K lore a r y → t ≡ metEntry K lore a r y → bitOr p t ≡ joined K lore a r (y + 1)
   unfolding joined
   joined-next y p t ep et = rw (add-one, ep, et)
 
@@ -235,14 +235,14 @@ pub part-is : (K a c r e v t y : ℕ) (lore : List ℕ) (b : Bool) → b ≡ mee
     → c ≡ a
     → v ≡ getD lore (8 + (c * K + y)) 0
     → t ≡ cond b v 0
-    → t ≡ partOf K lore a r y
-unfolding partOf
+    → t ≡ metEntry K lore a r y
+unfolding metEntry
 part-is K a c r e v t y lore b eb ee ec ev et = rw (et, eb, ee, ev, ec)
 
 -- past the names no entry is there, and the join is empty
-unnamed-part : (K : ℕ) (lore : List ℕ) (a r y : ℕ) → length lore ≡ loreLong K → mostNames ≤ a → partOf K lore a r y ≡ 0
-unfolding partOf
-unnamed-part K lore a r y long h = rw (unnamed-entry K lore a y long h) (none (meets K r (endingsIn lore) y))
+unnamed-part : (K : ℕ) (lore : List ℕ) (a r y : ℕ) → length lore ≡ loreLong K → mostNames ≤ a → metEntry K lore a r y ≡ 0
+unfolding metEntry
+unnamed-part K lore a r y long h = rw (unnamed-entry K lore a y long h) (none (meets K r (endingBits lore) y))
   where
     none : (b : Bool) → _≡_ {A = ℕ} (cond b 0 0) 0
     none true = refl
@@ -262,7 +262,7 @@ named a c e h = rw e at h
 
 -- ---- acceptance, in the words of the code
 
-pub accepts-is : (K r e : ℕ) (lore : List ℕ) (t : Bool) → t ≡ meets K r e 0 → e ≡ endingsIn lore → t ≡ taughtAccepts K lore r
+pub accepts-is : (K r e : ℕ) (lore : List ℕ) (t : Bool) → t ≡ meets K r e 0 → e ≡ endingBits lore → t ≡ taughtAccepts K lore r
 unfolding taughtAccepts
 accepts-is K r e lore t et ee = rw (et, ee)
 

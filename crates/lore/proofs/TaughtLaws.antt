@@ -22,7 +22,7 @@ use Rattle.numbers.proofs.TestLaws.{ext-true, and-out, any-in, any-out}
 use Rattle.hedge.proofs.RelationLaws.{relation-cong, relation-none, relation-or}
 use Rattle.hedge.proofs.NumberLaws.{relations-laws}
 use Rattle.lore.specs.Lore.{loreLong, marked, reads, outer, placeOf, NamesBelow, Masks, Taught, IsLore}
-use Rattle.lore.specs.Lore.{statesIn, endingsIn, emptyIn, partOf, joined, taughtWrap, taughtAccepts, taught}
+use Rattle.lore.specs.Lore.{statesIn, endingBits, emptyIn, metEntry, joined, taughtWrap, taughtAccepts, taught}
 use Rattle.lore.proofs.MeetLaws.{off, meets-ended}
 
 -- ---- the tests
@@ -102,10 +102,10 @@ module _ (K : ℕ) (rules ends lore : List ℕ) where
               (λ x z hx hz. sym (unnamed rules names a y (omega arith) x z))
         ]
 
-    module _ (below : EndsBelow K ends) (marks : endingsIn lore ≡ number K (marked ends (length ends))) (a r : ℕ) where
+    module _ (below : EndsBelow K ends) (marks : endingBits lore ≡ number K (marked ends (length ends))) (a r : ℕ) where
       part-is : (y : ℕ) → y < K
-          → partOf K lore a r y ≡ relation K (λ x z. ended ends (has K r) y && outer rules a y (length rules / 4) x z)
-      unfolding partOf
+          → metEntry K lore a r y ≡ relation K (λ x z. ended ends (has K r) y && outer rules a y (length rules / 4) x z)
+      unfolding metEntry
       part-is y h =
           rw (marks, meets-ended K ends below r y, entries-all a y h)
           (relation-when (ended ends (has K r) y) (outer rules a y (length rules / 4)))

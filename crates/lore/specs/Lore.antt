@@ -46,8 +46,8 @@ NamesBelow n rules = (i : ℕ) → i < length rules / 4 → field rules i 1 < n
 abbrev pub statesIn : List ℕ → ℕ
 statesIn lore = getD lore 0 0
 
-abbrev pub endingsIn : List ℕ → ℕ
-endingsIn lore = getD lore 1 0
+abbrev pub endingBits : List ℕ → ℕ
+endingBits lore = getD lore 1 0
 
 abbrev pub emptyIn : List ℕ → ℕ
 emptyIn lore = getD lore 2 0
@@ -64,7 +64,7 @@ pub record Masks (K : ℕ) (rules : List ℕ) (n : ℕ) (lore : List ℕ) : Type
 
 pub record Taught (K q : ℕ) (rules ends lore : List ℕ) : Type 0 where
   pub states : statesIn lore ≡ q
-  pub endings : endingsIn lore ≡ number K (marked ends (length ends))
+  pub endings : endingBits lore ≡ number K (marked ends (length ends))
   pub empty : emptyIn lore ≡ unit K q
   pub masks : Masks K rules (length rules / 4) lore
 
@@ -86,20 +86,20 @@ unfoldable pub meets : ℕ → ℕ → ℕ → ℕ → Bool
 meets K r marks y = ltb 0 (bitAnd (r / 2 ^ (y * K)) marks)
 
 -- the entry of inner state y, where its row meets the ending states
-unfoldable pub partOf : ℕ → List ℕ → ℕ → ℕ → ℕ → ℕ
-partOf K lore a r y = cond (meets K r (endingsIn lore) y) (getD lore (placeOf K a y) 0) 0
+unfoldable pub metEntry : ℕ → List ℕ → ℕ → ℕ → ℕ → ℕ
+metEntry K lore a r y = cond (meets K r (endingBits lore) y) (getD lore (placeOf K a y) 0) 0
 
 -- the entries of those of the n first inner states whose row meets the ending states, joined
 unfoldable pub joined : ℕ → List ℕ → ℕ → ℕ → ℕ → ℕ
 joined K lore a r zero = 0
-joined K lore a r (suc y) = bitOr (joined K lore a r y) (partOf K lore a r y)
+joined K lore a r (suc y) = bitOr (joined K lore a r y) (metEntry K lore a r y)
 
 unfoldable pub taughtWrap : ℕ → List ℕ → ℕ → ℕ → ℕ
 taughtWrap K lore a r = joined K lore a r K
 
 -- state 0 leads to an ending state
 unfoldable pub taughtAccepts : ℕ → List ℕ → ℕ → Bool
-taughtAccepts K lore r = meets K r (endingsIn lore) 0
+taughtAccepts K lore r = meets K r (endingBits lore) 0
 
 -- the binoid of the lore
 abbrev pub taught : ℕ → List ℕ → Binoid

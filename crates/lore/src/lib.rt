@@ -11,7 +11,7 @@ ghost use Rattle.words.specs.Tags.{mostNames};
 ghost use Rattle.hedge.specs.Schema.{mostStates, RulesBelow, EndsBelow};
 ghost use Rattle.hedge.specs.Operations.{relation, onePair, compose};
 ghost use Rattle.lore.specs.Lore.{loreLong, statesIn, emptyIn, NamesBelow, marked, placeOf, zeros, Masks, Taught, IsLore};
-ghost use Rattle.lore.specs.Lore.{meets, partOf, taughtWrap, taughtAccepts};
+ghost use Rattle.lore.specs.Lore.{meets, metEntry, taughtWrap, taughtAccepts};
 
 // The entries of a lore before its table, and all its entries.
 pub const HEAD: usize = 8;
@@ -154,7 +154,7 @@ fn when(t: bool, r: u64) -> u64
 fn part(lore: &[u64; LORE], name: u8, inner: u64, y: usize) -> u64
     requires { ⌜ name < mostNames ⌝ }
     requires { ⌜ y < mostStates ⌝ }
-    ensures { λ r. ⌜ r ≡ partOf mostStates (now (lore .entry)) name inner y ⌝ }
+    ensures { λ r. ⌜ r ≡ metEntry mostStates (now (lore .entry)) name inner y ⌝ }
 {
     let met = meets(inner, lore[1], y);
     when(met, lore[HEAD + (numbers::wide(name) * hedge::STATES + y)])

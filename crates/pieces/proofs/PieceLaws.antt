@@ -19,7 +19,7 @@ use Rattle.words.specs.Tags.{Tag, mostNames}
 use Rattle.words.specs.Binoid.{Binoid, Laws, Value}
 use Rattle.words.specs.Outermost.{OutermostOf, several, atMostSeveral, outermost, beside}
 use Rattle.words.proofs.ValueLaws.{value-balanced}
-use Rattle.words.proofs.OutermostLaws.{value-sides, beside-laws, few, many, outermost-few, outermost-laws, outermost-one, outermost-of}
+use Rattle.words.proofs.OutermostLaws.{value-sides, beside-laws, few-stay, many-limited, outermost-few, outermost-laws, outermost-one, outermost-of}
 use Rattle.hedge.specs.Schema.{mostStates, Valid, schemaFrom, RulesBelow, EndsBelow}
 use Rattle.hedge.specs.Relation.{RelationOf}
 use Rattle.hedge.specs.Operations.{unit, compose, wrap, full, covers, relations}
@@ -29,7 +29,7 @@ use Rattle.lore.specs.Lore.{NamesBelow, Taught, IsLore, taught}
 use Rattle.lore.proofs.LoreLaws.{zero-at}
 use Rattle.lore.proofs.TaughtLaws.{taught-wrap, taught-accepts, taught-laws}
 use Rattle.pieces.specs.declared.Piece.{Piece}
-use Rattle.pieces.specs.Pieces.{mostTags, pieceLong, piecesLong, piece, zeroPiece, pieceAt, putPiece, listOf}
+use Rattle.pieces.specs.Pieces.{mostTags, pieceLong, piecesLong, piece, zeroPiece, pieceAt, putPiece, piecesFrom}
 use Rattle.pieces.specs.Pieces.{sides, lifted, piecesOf, pieces, Counted, AllCounted, PieceWithin, fitsIn, isNone, accepted, acceptsPiece}
 
 -- ---- pieces in a list
@@ -99,20 +99,20 @@ piece-past pieces k e h =
 
 -- the list of given pieces
 
-pub listed-length : (at : ℕ → Piece) (k n : ℕ) → length (listOf at k n) ≡ n * pieceLong
-unfolding listOf
-listed-length at k zero = refl
-listed-length at k (suc n) = let e = listed-length at (suc k) n in omega (arith, e)
+pub pieces-from-length : (at : ℕ → Piece) (k n : ℕ) → length (piecesFrom at k n) ≡ n * pieceLong
+unfolding piecesFrom
+pieces-from-length at k zero = refl
+pieces-from-length at k (suc n) = let e = pieces-from-length at (suc k) n in omega (arith, e)
 
-pub listed-piece : (at : ℕ → Piece) (k n i : ℕ) → i < n → pieceAt (listOf at k n) i ≡ at (k + i)
-unfolding pieceAt listOf
-listed-piece at k zero i h = absurd (omega arith)
-listed-piece at k (suc n) zero h = let z : k + 0 ≡ k = omega arith in rw z
-listed-piece at k (suc n) (suc i) h =
+pub pieces-from-at : (at : ℕ → Piece) (k n i : ℕ) → i < n → pieceAt (piecesFrom at k n) i ≡ at (k + i)
+unfolding pieceAt piecesFrom
+pieces-from-at at k zero i h = absurd (omega arith)
+pieces-from-at at k (suc n) zero h = let z : k + 0 ≡ k = omega arith in rw z
+pieces-from-at at k (suc n) (suc i) h =
     let z : k + suc i ≡ suc k + i = omega arith in
     let first : suc i * pieceLong ≡ suc (suc (i * pieceLong)) = omega arith in
     let second : suc i * pieceLong + 1 ≡ suc (suc (i * pieceLong + 1)) = omega arith in
-    rw (z, second, first) (listed-piece at (suc k) n i (omega arith))
+    rw (z, second, first) (pieces-from-at at (suc k) n i (omega arith))
 
 -- ---- a relation and a number beside it
 
@@ -204,13 +204,13 @@ piece-is r s m n e d = ap₂ piece e d
 -- outermost elements in a row: where either side has too many, and where neither has
 
 pub many-left : (m n r : ℕ) → several ≤ m → r ≡ several → r ≡ atMostSeveral (m + n)
-many-left m n r h e = e ∙ sym (many (m + n) (omega arith))
+many-left m n r h e = e ∙ sym (many-limited (m + n) (omega arith))
 
 pub many-right : (m n r : ℕ) → several ≤ n → r ≡ several → r ≡ atMostSeveral (m + n)
-many-right m n r h e = e ∙ sym (many (m + n) (omega arith))
+many-right m n r h e = e ∙ sym (many-limited (m + n) (omega arith))
 
 pub few-both : (m n r : ℕ) → m < several → n < several → r ≡ m + n → r ≡ atMostSeveral (m + n)
-few-both m n r h l e = e ∙ sym (few (m + n) (omega arith))
+few-both m n r h l e = e ∙ sym (few-stay (m + n) (omega arith))
 
 -- a test and one more: where the first fails, and where it passes
 

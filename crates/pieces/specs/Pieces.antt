@@ -45,9 +45,9 @@ unfoldable pub putPiece : List ℕ → ℕ → Piece → List ℕ
 putPiece pieces k p = set (set pieces (k * pieceLong) (p .relation)) (k * pieceLong + 1) (p .outermost)
 
 -- the list of these pieces, n from the k-th on
-unfoldable pub listOf : (ℕ → Piece) → ℕ → ℕ → List ℕ
-listOf at k zero = []
-listOf at k (suc n) = at k .relation ∷ at k .outermost ∷ listOf at (suc k) n
+unfoldable pub piecesFrom : (ℕ → Piece) → ℕ → ℕ → List ℕ
+piecesFrom at k zero = []
+piecesFrom at k (suc n) = at k .relation ∷ at k .outermost ∷ piecesFrom at (suc k) n
 
 -- ---- the binoid of pieces
 

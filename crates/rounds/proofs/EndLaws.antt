@@ -21,7 +21,7 @@ use Rattle.rounds.specs.declared.CheckReply.the-variants as check
 use Rattle.rounds.specs.declared.Event.{Event}
 use Rattle.rounds.specs.declared.Event.the-variants as event
 use Rattle.rounds.specs.Checks.{HasPage, zeroed, Lent, Decided, CheckSays}
-use Rattle.rounds.specs.Walking.{Met, replyOf}
+use Rattle.rounds.specs.Walking.{Met, eventReply}
 use Rattle.rounds.proofs.StateLaws.{AfterRound, state-used}
 use Rattle.rounds.proofs.WalkedLaws.{WalkedOver}
 use Rattle.rounds.proofs.DecisionLaws.{eventNumber, Decisive, event-decides, passed-decides, next-rows, next-state}
@@ -44,7 +44,7 @@ quiet-went (Went tally) m told = (tally, refl)
 -- an event that decides is what the check replies
 event-says : (f t : List ℕ) (budget r : ℕ) (e : Event) → Decisive e → Decided f t budget (met r (eventNumber e)) → (u : List ℕ)
     → u ≡ zeroed t
-    → CheckSays f t budget (replyOf e r) u
+    → CheckSays f t budget (eventReply e r) u
 event-says f t budget r event.Mismatch decisive d u h = (d, h)
 event-says f t budget r event.Invalid decisive d u h = (d, h)
 event-says f t budget r event.TooDeep decisive d u h = (d, h)
@@ -81,7 +81,7 @@ module _ {f lore t₀ t t′ : List ℕ} {budget r prev n : ℕ} {w : Walk} {e :
       omega (arith, room, walked-length f lore t′ (bookOf t n) w (turn .walked), turn .state .same-length)
 
   -- the event decides, and the table is cleared
-  pub ends-event : Decisive e → {s : CheckReply} {u : List ℕ} → s ≡ replyOf e (r + 1) → u ≡ cleared t′ 0 tableLong
+  pub ends-event : Decisive e → {s : CheckReply} {u : List ℕ} → s ≡ eventReply e (r + 1) → u ≡ cleared t′ 0 tableLong
       → CheckSays f t₀ budget s u
   ends-event decisive {s} {u} reply h =
       let decides =

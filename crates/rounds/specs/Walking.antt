@@ -24,9 +24,9 @@ Met (Went tally) (Quiet m) =
     (tally .notes .invalid ≡ false) × (tally .notes .deep ≡ false) × (tally .notes .crowded ≡ false) × (m ≡ tally .rows)
 
 -- the reply to an event of round r
-abbrev pub replyOf : Event → ℕ → CheckReply
-replyOf Mismatch r = check.Mismatch r
-replyOf Invalid r = check.Invalid r
-replyOf TooDeep r = check.TooDeep r
-replyOf Crowded r = check.Crowded r
-replyOf (Quiet m) r = check.OutOfRounds r
+abbrev pub eventReply : Event → ℕ → CheckReply
+eventReply Mismatch r = check.Mismatch r
+eventReply Invalid r = check.Invalid r
+eventReply TooDeep r = check.TooDeep r
+eventReply Crowded r = check.Crowded r
+eventReply (Quiet m) r = check.OutOfRounds r

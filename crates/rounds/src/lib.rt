@@ -9,7 +9,7 @@ ghost use Rattle.schema.specs.Schemas.{LoreOf};
 ghost use Rattle.rows.specs.Tables.{cleared};
 ghost use Rattle.worktable.specs.Packed.{tableLong};
 ghost use Rattle.shares.specs.Shares.{Shares};
-ghost use Rattle.rounds.specs.Walking.{Met, replyOf};
+ghost use Rattle.rounds.specs.Walking.{Met, eventReply};
 ghost use Rattle.rounds.specs.Checks.{HasPage, Lent, CheckSays};
 ghost use Rattle.rounds.specs.Answers.{answer, number, images};
 
@@ -61,7 +61,7 @@ fn event_of(w: walk::Walk) -> Event
 
 // The reply to an event of round r.
 fn reply_of(e: Event, r: usize) -> CheckReply
-    ensures { λ s. ⌜ s ≡ replyOf e r ⌝ }
+    ensures { λ s. ⌜ s ≡ eventReply e r ⌝ }
 {
     match e {
         Event::Mismatch => CheckReply::Mismatch(r),

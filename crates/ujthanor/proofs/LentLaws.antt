@@ -9,7 +9,7 @@ use borrow.Author.Needs.{needs}
 use Rattle.pieces.specs.Pieces.{pieceAt}
 use Rattle.form.specs.declared.Summary.{Summary}
 use Rattle.rows.specs.Tables.{rowsOf, tableOf, flat, cleared}
-use Rattle.worktable.specs.Packed.{rowWidth, listed, digitsIn, packed, nonterminalIn, aboveIn, summaryIn}
+use Rattle.worktable.specs.Packed.{rowWidth, numbersFrom, digitsIn, packed, nonterminalIn, aboveIn, summaryIn}
 use Rattle.summary.specs.Packing.{zeros}
 use Rattle.ujthanor.specs.LentRows.{written, noSummary, StandsFor}
 
@@ -44,7 +44,7 @@ put-first s t row t′ long packs e =
 
 -- zeros over the first entries are the row of a refusal's summary
 pub put-zeros : (t t′ : List ℕ) → t′ ≡ cleared t 0 rowWidth → t′ ≡ written t zeros
-unfolding cleared packed listed digitsIn pieceAt zeros
+unfolding cleared packed numbersFrom digitsIn pieceAt zeros
 put-zeros t t′ e = e
 
 pub ruleset lends = (put-zeros, other-length, other-part, other-above, a-row, put-first, needs)

@@ -63,25 +63,25 @@ module _ (C D : Binoid) {H : Type 0} (S : Sides H (C .H) (D .H)) where
 
 -- ---- the number of outermost elements
 
-pub few : (n : ℕ) → n ≤ several → atMostSeveral n ≡ n
+pub few-stay : (n : ℕ) → n ≤ several → atMostSeveral n ≡ n
 unfolding atMostSeveral
-few n h =
+few-stay n h =
     elim (decLt n several) [
       | yes l ↦ rw (lt-ltb n several l)
       | no l ↦ rw (le-ltb n several (omega (arith, l))) (omega (arith, h, l))
     ]
 
-pub many : (n : ℕ) → several ≤ n → atMostSeveral n ≡ several
+pub many-limited : (n : ℕ) → several ≤ n → atMostSeveral n ≡ several
 unfolding atMostSeveral
-many n h = rw (le-ltb n several h)
+many-limited n h = rw (le-ltb n several h)
 
 -- what is already too many may be forgotten
 pub sum-left : (m n : ℕ) → atMostSeveral (atMostSeveral m + n) ≡ atMostSeveral (m + n)
 sum-left m n =
     elim (decLt m several) [
-      | yes l ↦ rw (few m (omega (arith, l)))
+      | yes l ↦ rw (few-stay m (omega (arith, l)))
       | no l ↦
-          rw (many m (omega (arith, l)), many (several + n) (omega arith), many (m + n) (omega (arith, l)))
+          rw (many-limited m (omega (arith, l)), many-limited (several + n) (omega arith), many-limited (m + n) (omega (arith, l)))
     ]
 
 pub sum-right : (m n : ℕ) → atMostSeveral (m + atMostSeveral n) ≡ atMostSeveral (m + n)
@@ -90,8 +90,8 @@ sum-right m n = ap atMostSeveral (omega arith) ∙ sum-left n m ∙ ap atMostSev
 pub outermost-few : (n : ℕ) → atMostSeveral n ≤ several
 outermost-few n =
     elim (decLt n several) [
-      | yes l ↦ rw (few n (omega (arith, l))) (omega (arith, l))
-      | no l ↦ rw (many n (omega (arith, l))) (omega arith)
+      | yes l ↦ rw (few-stay n (omega (arith, l))) (omega (arith, l))
+      | no l ↦ rw (many-limited n (omega (arith, l))) (omega arith)
     ]
 
 abbrev pub outermost-laws : Laws outermost
@@ -101,8 +101,8 @@ outermost-laws =
       good-unit = omega arith;
       good-compose = λ {x} {y} g k. outermost-few (x + y);
       good-wrap = λ g. omega arith;
-      unit-left = λ {x} g. few (0 + x) (omega (arith, g)) ∙ omega arith;
-      unit-right = λ {x} g. few (x + 0) (omega (arith, g)) ∙ omega arith;
+      unit-left = λ {x} g. few-stay (0 + x) (omega (arith, g)) ∙ omega arith;
+      unit-right = λ {x} g. few-stay (x + 0) (omega (arith, g)) ∙ omega arith;
       assoc = λ {x} {y} {z} g k l. sum-left (x + y) z ∙ ap atMostSeveral (omega arith) ∙ sym (sum-right x (y + z));
     }
 
@@ -110,9 +110,9 @@ outermost-laws =
 
 -- behind an element there are so many more
 element-more : (k : ℕ) → (atMostSeveral (1 + k) ≡ 0 → ⊥) × ((atMostSeveral (1 + k) ≡ 1) ↔ (k ≡ 0))
-element-more zero = let e : atMostSeveral 1 ≡ 1 = few 1 (omega arith) in (λ d. omega (arith, e, d), (λ d. refl, λ d. e))
+element-more zero = let e : atMostSeveral 1 ≡ 1 = few-stay 1 (omega arith) in (λ d. omega (arith, e, d), (λ d. refl, λ d. e))
 element-more (suc k) =
-    let e : atMostSeveral (1 + suc k) ≡ several = many (1 + suc k) (omega arith) in
+    let e : atMostSeveral (1 + suc k) ≡ several = many-limited (1 + suc k) (omega arith) in
     (λ d. omega (arith, e, d), (λ d. omega (arith, e, d), λ d. omega (arith, d)))
 
 pub outermost-none : {w : List Tag} {n : ℕ} → Value outermost w n → (n ≡ 0) ↔ (w ≡ [])

@@ -16,48 +16,48 @@ use mir.Val.{Fits}
 use borrow.Author.Needs.{needs}
 use Rattle.pieces.specs.declared.Piece.{Piece}
 use Rattle.pieces.specs.Pieces.{mostTags, mostPieces, pieceAt, AllCounted}
-use Rattle.worktable.specs.Packed.{listed, digitsIn, eightNames, relationsIn, outermostIn, nameIn}
+use Rattle.worktable.specs.Packed.{numbersFrom, digitsIn, eightNames, relationsIn, outermostIn, nameIn}
 use Rattle.rows.proofs.MoveLaws.{zeroEntries}
 
 -- ---- as a list
 
-pub listed-length : (at : ℕ → ℕ) (k n : ℕ) → length (listed at k n) ≡ n
-unfolding listed
-listed-length at k zero = refl
-listed-length at k (suc n) = ap suc (listed-length at (suc k) n)
+pub numbers-length : (at : ℕ → ℕ) (k n : ℕ) → length (numbersFrom at k n) ≡ n
+unfolding numbersFrom
+numbers-length at k zero = refl
+numbers-length at k (suc n) = ap suc (numbers-length at (suc k) n)
 
-pub listed-at : (at : ℕ → ℕ) (k n i : ℕ) → i < n → getD (listed at k n) i 0 ≡ at (k + i)
-unfolding listed
-listed-at at k zero i h = absurd (omega arith)
-listed-at at k (suc n) zero h = let z : k + 0 ≡ k = omega arith in rw z
-listed-at at k (suc n) (suc i) h = let z : k + suc i ≡ suc k + i = omega arith in rw z (listed-at at (suc k) n i (omega arith))
+pub numbers-at : (at : ℕ → ℕ) (k n i : ℕ) → i < n → getD (numbersFrom at k n) i 0 ≡ at (k + i)
+unfolding numbersFrom
+numbers-at at k zero i h = absurd (omega arith)
+numbers-at at k (suc n) zero h = let z : k + 0 ≡ k = omega arith in rw z
+numbers-at at k (suc n) (suc i) h = let z : k + suc i ≡ suc k + i = omega arith in rw z (numbers-at at (suc k) n i (omega arith))
 
-listed-more : (at : ℕ → ℕ) (k n : ℕ) → listed at k (suc n) ≡ listed at k n ++ (at (k + n) ∷ [])
-unfolding listed
-listed-more at k zero = let z : k + 0 ≡ k = omega arith in rw z
-listed-more at k (suc n) =
+numbers-more : (at : ℕ → ℕ) (k n : ℕ) → numbersFrom at k (suc n) ≡ numbersFrom at k n ++ (at (k + n) ∷ [])
+unfolding numbersFrom
+numbers-more at k zero = let z : k + 0 ≡ k = omega arith in rw z
+numbers-more at k (suc n) =
     let z : k + suc n ≡ suc k + n = omega arith in
-    rw z (ap (λ (l : List ℕ). at k ∷ l) (listed-more at (suc k) n))
+    rw z (ap (λ (l : List ℕ). at k ∷ l) (numbers-more at (suc k) n))
 
 -- the k first stand in an array of m, and 0 behind them
 module _ (at : ℕ → ℕ) (m : ℕ) where
-  listed-none : zeroEntries m ≡ listed at 0 0 ++ zeroEntries (m - 0)
-  unfolding listed
-  listed-none = let z : m - 0 ≡ m = omega arith in rw z
+  numbers-none : zeroEntries m ≡ numbersFrom at 0 0 ++ zeroEntries (m - 0)
+  unfolding numbersFrom
+  numbers-none = let z : m - 0 ≡ m = omega arith in rw z
 
-  module _ (l : List ℕ) (k : ℕ) (so-far : l ≡ listed at 0 k ++ zeroEntries (m - k)) where
-    listed-next : k < m → set l k (at k) ≡ listed at 0 (k + 1) ++ zeroEntries (m - (k + 1))
-    listed-next h =
+  module _ (l : List ℕ) (k : ℕ) (so-far : l ≡ numbersFrom at 0 k ++ zeroEntries (m - k)) where
+    numbers-next : k < m → set l k (at k) ≡ numbersFrom at 0 (k + 1) ++ zeroEntries (m - (k + 1))
+    numbers-next h =
         let p : m - k ≡ suc (m - suc k) = omega arith in
         let z : 0 + k ≡ k = omega arith in
-        rw (so-far, p, add-one k, listed-more at 0 k, z, append-assoc)
-        (set-at (listed at 0 k) 0 (zeroEntries (m - suc k)) (at k) k (listed-length at 0 k))
+        rw (so-far, p, add-one k, numbers-more at 0 k, z, append-assoc)
+        (set-at (numbersFrom at 0 k) 0 (zeroEntries (m - suc k)) (at k) k (numbers-length at 0 k))
 
-    listed-end : m ≤ k → k ≤ m → l ≡ listed at 0 m
-    listed-end h b =
+    numbers-end : m ≤ k → k ≤ m → l ≡ numbersFrom at 0 m
+    numbers-end h b =
         let d : k ≡ m = omega arith in
         let z : m - m ≡ 0 = omega arith in
-        so-far ∙ rw (d, z) (append-nil (listed at 0 m))
+        so-far ∙ rw (d, z) (append-nil (numbersFrom at 0 m))
 
 -- ---- in one entry
 
@@ -188,31 +188,31 @@ counts-end values i r f h = from-end 2 mostPieces (λ k. pieceAt values k .outer
 
 -- the names of a row, and the relations of a form
 
-pub named-none : (row : List ℕ) → zeroEntries mostTags ≡ listed (nameIn row) 0 0 ++ zeroEntries (mostTags - 0)
-named-none row = listed-none (nameIn row) mostTags
+pub named-none : (row : List ℕ) → zeroEntries mostTags ≡ numbersFrom (nameIn row) 0 0 ++ zeroEntries (mostTags - 0)
+named-none row = numbers-none (nameIn row) mostTags
 
-module _ (row names : List ℕ) (k : ℕ) (so-far : names ≡ listed (nameIn row) 0 k ++ zeroEntries (mostTags - k)) where
+module _ (row names : List ℕ) (k : ℕ) (so-far : names ≡ numbersFrom (nameIn row) 0 k ++ zeroEntries (mostTags - k)) where
   pub named-next : k < mostTags → set names k (getD row (1 + k / 8) 0 / 2 ^ (k % 8 * 8) % 256)
-      ≡ listed (nameIn row) 0 (k + 1) ++ zeroEntries (mostTags - (k + 1))
+      ≡ numbersFrom (nameIn row) 0 (k + 1) ++ zeroEntries (mostTags - (k + 1))
   unfolding nameIn
-  named-next h = listed-next (nameIn row) mostTags names k so-far h
+  named-next h = numbers-next (nameIn row) mostTags names k so-far h
 
-  pub named-end : mostTags ≤ k → k ≤ mostTags → names ≡ listed (nameIn row) 0 mostTags
-  named-end h l = listed-end (nameIn row) mostTags names k so-far h l
+  pub named-end : mostTags ≤ k → k ≤ mostTags → names ≡ numbersFrom (nameIn row) 0 mostTags
+  named-end h l = numbers-end (nameIn row) mostTags names k so-far h l
 
 abbrev pub relationAt : List ℕ → ℕ → ℕ
 relationAt values k = pieceAt values k .relation
 
-pub related-none : (values : List ℕ) → zeroEntries mostPieces ≡ listed (relationAt values) 0 0 ++ zeroEntries (mostPieces - 0)
-related-none values = listed-none (relationAt values) mostPieces
+pub related-none : (values : List ℕ) → zeroEntries mostPieces ≡ numbersFrom (relationAt values) 0 0 ++ zeroEntries (mostPieces - 0)
+related-none values = numbers-none (relationAt values) mostPieces
 
-module _ (values relations : List ℕ) (k : ℕ) (so-far : relations ≡ listed (relationAt values) 0 k ++ zeroEntries (mostPieces - k)) where
+module _ (values relations : List ℕ) (k : ℕ) (so-far : relations ≡ numbersFrom (relationAt values) 0 k ++ zeroEntries (mostPieces - k)) where
   pub related-next : (p : Piece) → p ≡ pieceAt values k → k < mostPieces
-      → set relations k (p .relation) ≡ listed (relationAt values) 0 (k + 1) ++ zeroEntries (mostPieces - (k + 1))
-  related-next p e h = rw e (listed-next (relationAt values) mostPieces relations k so-far h)
+      → set relations k (p .relation) ≡ numbersFrom (relationAt values) 0 (k + 1) ++ zeroEntries (mostPieces - (k + 1))
+  related-next p e h = rw e (numbers-next (relationAt values) mostPieces relations k so-far h)
 
   pub related-end : mostPieces ≤ k → k ≤ mostPieces → relations ≡ relationsIn values
-  related-end h l = listed-end (relationAt values) mostPieces relations k so-far h l
+  related-end h l = numbers-end (relationAt values) mostPieces relations k so-far h l
 
 pub ruleset digits = (
   bytes-none,

@@ -8,14 +8,13 @@ use native.Mathlib.Nat.{div-eq-of-lt}
 use native.Mathlib.Omega.{arith}
 use lib.ListN.{length, length-append, getD, List·getD-append}
 use lib.Seq.{ext-getD}
-use Rattle.pieces.specs.Pieces.{mostTags, mostPieces, piecesLong, piece, pieceAt, listOf, AllCounted}
-use Rattle.pieces.proofs.PieceLaws as pieces
-use Rattle.pieces.proofs.PieceLaws.{pieces-ext, listed-piece}
+use Rattle.pieces.specs.Pieces.{mostTags, mostPieces, piecesLong, piece, pieceAt, piecesFrom, AllCounted}
+use Rattle.pieces.proofs.PieceLaws.{pieces-ext, pieces-from-length, pieces-from-at}
 use Rattle.form.specs.Held.{formOf, lastOf, Holds}
 use Rattle.form.specs.declared.Summary.{Summary}
-use Rattle.worktable.specs.Packed.{rowHead, countsAt, rowWidth, listed, relationsIn, outermostIn, packed}
+use Rattle.worktable.specs.Packed.{rowHead, countsAt, rowWidth, numbersFrom, relationsIn, outermostIn, packed}
 use Rattle.worktable.specs.Packed.{nonterminalIn, endsIn, startsIn, nameIn, pieceIn, aboveIn, summaryIn, RowOf}
-use Rattle.worktable.proofs.DigitLaws.{listed-length, listed-at, digit-at, digits-small, relationAt}
+use Rattle.worktable.proofs.DigitLaws.{numbers-length, numbers-at, digit-at, digits-small, relationAt}
 
 -- the entry behind a list
 getD-at : (l : List ℕ) (v n : ℕ) → length l ≡ n → getD (l ++ (v ∷ [])) n 0 ≡ v
@@ -29,18 +28,18 @@ module _ (x : ℕ) (s : Summary) where
   unfolding packed
   packed-relations k h =
       let z : rowHead + k ≡ suc (suc (suc k)) = omega arith in
-      let long = listed-length (relationAt (s .values)) 0 mostPieces in
+      let long = numbers-length (relationAt (s .values)) 0 mostPieces in
       rw z
       (List·getD-append (relationsIn (s .values)) (outermostIn (s .values) ∷ []) 0 k (omega (arith, long))
-      ∙ listed-at (relationAt (s .values)) 0 mostPieces k h ∙ ap (relationAt (s .values)) (omega arith))
+      ∙ numbers-at (relationAt (s .values)) 0 mostPieces k h ∙ ap (relationAt (s .values)) (omega arith))
 
   packed-last : getD (packed x s) countsAt 0 ≡ outermostIn (s .values)
   unfolding packed
-  packed-last = getD-at (relationsIn (s .values)) (outermostIn (s .values)) mostPieces (listed-length (relationAt (s .values)) 0 mostPieces)
+  packed-last = getD-at (relationsIn (s .values)) (outermostIn (s .values)) mostPieces (numbers-length (relationAt (s .values)) 0 mostPieces)
 
   pub packed-length : length (packed x s) ≡ rowWidth
   unfolding packed
-  packed-length = let long = listed-length (relationAt (s .values)) 0 mostPieces in rw length-append (omega (arith, long))
+  packed-length = let long = numbers-length (relationAt (s .values)) 0 mostPieces in rw length-append (omega (arith, long))
 
   pub packed-nonterminal : x < 256 → nonterminalIn (packed x s) ≡ x
   unfolding packed
@@ -70,13 +69,13 @@ module _ (x : ℕ) (s : Summary) where
             let q : k % 8 ≡ k - 8 = omega arith in
             rw (p, q) (digit-at 8 (λ i. getD (s .names) i 0) bytes 8 (k - 8) 8 (omega arith) ∙ ap (λ (i : ℕ). getD (s .names) i 0) (omega arith))
 
-    packed-names : length (s .names) ≡ mostTags → listed (nameIn (packed x s)) 0 mostTags ≡ s .names
+    packed-names : length (s .names) ≡ mostTags → numbersFrom (nameIn (packed x s)) 0 mostTags ≡ s .names
     packed-names l =
-        let long = listed-length (nameIn (packed x s)) 0 mostTags in
-        ext-getD 0 (listed (nameIn (packed x s)) 0 mostTags) (s .names) (long ∙ sym l)
+        let long = numbers-length (nameIn (packed x s)) 0 mostTags in
+        ext-getD 0 (numbersFrom (nameIn (packed x s)) 0 mostTags) (s .names) (long ∙ sym l)
         (λ i h.
         let z : 0 + i ≡ i = omega arith in
-        listed-at (nameIn (packed x s)) 0 mostTags i (omega (arith, long)) ∙ ap (nameIn (packed x s)) z ∙ packed-name i (omega (arith, long)))
+        numbers-at (nameIn (packed x s)) 0 mostTags i (omega (arith, long)) ∙ ap (nameIn (packed x s)) z ∙ packed-name i (omega (arith, long)))
 
   pub packed-above : AllCounted (s .values) → aboveIn (packed x s) ≡ 0
   packed-above all =
@@ -92,12 +91,12 @@ module _ (x : ℕ) (s : Summary) where
       (rw packed-last
       (digit-at 2 (λ i. pieceAt (s .values) i .outermost) small 0 k mostPieces h ∙ ap (λ (i : ℕ). pieceAt (s .values) i .outermost) z))
 
-  packed-values : AllCounted (s .values) → length (s .values) ≡ piecesLong → listOf (pieceIn (packed x s)) 0 mostPieces ≡ s .values
+  packed-values : AllCounted (s .values) → length (s .values) ≡ piecesLong → piecesFrom (pieceIn (packed x s)) 0 mostPieces ≡ s .values
   packed-values all l =
-      pieces-ext (listOf (pieceIn (packed x s)) 0 mostPieces) (s .values) (pieces.listed-length (pieceIn (packed x s)) 0 mostPieces) l
+      pieces-ext (piecesFrom (pieceIn (packed x s)) 0 mostPieces) (s .values) (pieces-from-length (pieceIn (packed x s)) 0 mostPieces) l
       (λ k h.
       let z : 0 + k ≡ k = omega arith in
-      listed-piece (pieceIn (packed x s)) 0 mostPieces k (omega arith) ∙ ap (pieceIn (packed x s)) z ∙ packed-piece all k (omega arith))
+      pieces-from-at (pieceIn (packed x s)) 0 mostPieces k (omega arith) ∙ ap (pieceIn (packed x s)) z ∙ packed-piece all k (omega arith))
 
   module _ (bytes : (k : ℕ) → getD (s .names) k 0 < 256) where
     -- the summary is read back, and is what the row packs

@@ -7,7 +7,7 @@ use Prim.Native.Nat.{ℕ, zero, suc, _+_, _*_, _/_, _%_, _^_, _<_}
 use lib.ListN.{getD}
 use Rattle.words.specs.Reduced.{Stack}
 use Rattle.pieces.specs.declared.Piece.{Piece}
-use Rattle.pieces.specs.Pieces.{mostTags, mostPieces, piece, pieceAt, listOf}
+use Rattle.pieces.specs.Pieces.{mostTags, mostPieces, piece, pieceAt, piecesFrom}
 use Rattle.form.specs.Held.{summaryOf, formOf, lastOf, Holds}
 use Rattle.form.specs.declared.Summary.{Summary}
 use Rattle.trees.specs.Events.{Pair}
@@ -33,9 +33,9 @@ tableLong = mostImages * rowWidth
 -- ---- a row
 
 -- n numbers from the k-th on, as a list, and in one entry, w bits each, the first lowest
-unfoldable pub listed : (ℕ → ℕ) → ℕ → ℕ → List ℕ
-listed at k zero = []
-listed at k (suc n) = at k ∷ listed at (suc k) n
+unfoldable pub numbersFrom : (ℕ → ℕ) → ℕ → ℕ → List ℕ
+numbersFrom at k zero = []
+numbersFrom at k (suc n) = at k ∷ numbersFrom at (suc k) n
 
 unfoldable pub digitsIn : ℕ → (ℕ → ℕ) → ℕ → ℕ → ℕ
 digitsIn w at k zero = 0
@@ -46,7 +46,7 @@ abbrev pub eightNames : List ℕ → ℕ → ℕ
 eightNames names k = digitsIn 8 (λ i. getD names i 0) k 8
 
 abbrev pub relationsIn : List ℕ → List ℕ
-relationsIn values = listed (λ k. pieceAt values k .relation) 0 mostPieces
+relationsIn values = numbersFrom (λ k. pieceAt values k .relation) 0 mostPieces
 
 -- the counts of outermost elements, two bits each
 abbrev pub outermostIn : List ℕ → ℕ
@@ -81,7 +81,7 @@ aboveIn row = getD row countsAt 0 / 2 ^ (mostPieces * 2)
 -- the summary that a row shows
 abbrev pub summaryIn : List ℕ → Summary
 summaryIn row =
-    summaryOf (record { ends = endsIn row; starts = startsIn row }) (listed (nameIn row) 0 mostTags) (listOf (pieceIn row) 0 mostPieces)
+    summaryOf (record { ends = endsIn row; starts = startsIn row }) (numbersFrom (nameIn row) 0 mostTags) (piecesFrom (pieceIn row) 0 mostPieces)
 
 -- the row packs the nonterminal x with the reduced form of these tags and this last piece
 pub record RowOf (row : List ℕ) (x : ℕ) (form : Stack Piece) (last : Piece) : Type 0 where
