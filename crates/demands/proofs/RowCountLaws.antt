@@ -1,5 +1,5 @@
 -- How many rows a pass leaves, and how wide they are. Ascending rows differ, and rows that differ pack different images; so more than 256
--- rows would be more than 256 images, which is an event, and a round that passes has none. Each row has 20 entries. Assumes nothing.
+-- rows would be more than 256 images, which is an event, and a round that passes has none. Each row has 21 entries. Assumes nothing.
 use mathlib.Core.Path.{_≡_, refl, ap}
 use mathlib.Core.List.{List, [], _∷_, List·Memᴰ, List·Memᴰ·head, List·Memᴰ·tail, List·Memᴰ·not-nil, List·Memᴰ·cases-cons, Memᴰ·cast}
 use mathlib.Core.Logic.{⊎-elim}

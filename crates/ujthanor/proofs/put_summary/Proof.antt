@@ -1,4 +1,4 @@
--- The packed row goes over the first 20 entries (LentLaws). Assumes nothing.
+-- The packed row goes over the first 21 entries (LentLaws). Assumes nothing.
 use Rattle.ujthanor.proofs.LentLaws.{lends}
 use Rattle.ujthanor.proofs.put_summary.Statement.{statement}
 use Rattle.ujthanor.proofs.put_summary.Tie as tie
