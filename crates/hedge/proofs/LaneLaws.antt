@@ -81,7 +81,7 @@ module _ (K : ℕ) where
   one-row false s h = number-none K ∙ sym (zero-mul s)
 
   -- times a row
-  lanes-times : 0 < K → (p : ℕ → Bool) (s : ℕ) → s < 2 ^ K → (n : ℕ)
+  pub lanes-times : 0 < K → (p : ℕ → Bool) (s : ℕ) → s < 2 ^ K → (n : ℕ)
       → lowest K (n * K) (λ x z. eqb z 0 && p x) * s ≡ lowest K (n * K) (λ x z. p x && bit s z)
   lanes-times h p s l zero = rw (lanes-none (λ x z. eqb z 0 && p x), lanes-none (λ x z. p x && bit s z)) (omega arith)
   lanes-times h p s l (suc n) =
@@ -97,7 +97,7 @@ module _ (K : ℕ) where
 
 -- ---- all pairs: a whole row in each row there is, at the width of the code
 
-first-column : _≡_ {A = ℕ} 72340172838076673 (relation 8 (λ x z. eqb z 0))
+pub first-column : _≡_ {A = ℕ} 72340172838076673 (relation 8 (λ x z. eqb z 0))
 unfolding relation lowest number
 first-column = refl
 

@@ -3,6 +3,7 @@ pub mod RelationLaws
 pub mod Relates
 pub mod NumberLaws
 pub mod UnitLaws
-pub mod LoopLaws
 pub mod LaneLaws
+pub mod ThroughLaws
+pub mod LoopLaws
 pub mod CoverLaws

@@ -1,68 +1,23 @@
--- What the loops and branches of the code have, in the very words in which the code has it, so that `search turns` chains them: none,
--- next and end of a loop; the value in each arm of a branch. Each follows from one law of BitLaws or UnitLaws. Assumes nothing.
-use mathlib.Core.Path.{_≡_, refl, sym, ap, ap₂, _∙_}
-use mathlib.Core.Bool.{Bool, true, false, _&&_, _||_}
+-- What the branches and the loop of the code have, in the very words in which the code has it and at its width, so that `search turns`
+-- chains them: the value in each arm of a branch; none, next and end of the composition's loop. Each follows from one law of UnitLaws or
+-- of ThroughLaws. Assumes nothing.
+use mathlib.Core.Path.{_≡_, refl, sym, ap, _∙_}
 use Prim.Native.Nat.{ℕ, _+_, _*_, _/_, _%_, _^_, _≤_, _<_}
 use native.Mathlib.Nat.{mod-eq-of-lt}
-use native.Mathlib.Numerals.{add-one}
 use native.Mathlib.Omega.{arith}
-use lib.Pow.{pow-pos}
+use lib.Bits.{bitOr, bitAnd}
+use lib.Pow.{pow-pos, shr-shr}
 use mir.Syntax.{w64}
 use mir.Val.{Fits}
 use borrow.Author.Needs.{needs}
-use Rattle.numbers.specs.Bits.{any, one-if, number}
-use Rattle.hedge.specs.Operations.{same, linked, lowest, relation, unit, compose}
-use Rattle.numbers.proofs.BitLaws.{number-lt, number-more, shl-one, top-lt}
+use Rattle.numbers.specs.Bits.{number}
+use Rattle.hedge.specs.Relation.{has}
+use Rattle.hedge.specs.Operations.{same, linked, through, firstColumn, lowest, relation, unit, compose}
+use Rattle.numbers.proofs.BitLaws.{shl-one}
+use Rattle.hedge.proofs.RelationLaws.{relation-lt}
 use Rattle.hedge.proofs.UnitLaws.{unit-compose, unit-first-rows}
-
--- ---- a test of some number
-
-pub any-none : (f : ℕ → Bool) → false ≡ any 0 f
-unfolding any
-any-none f = refl
-
-pub any-next : (n : ℕ) (f : ℕ → Bool) (t u : Bool) → t ≡ any n f → u ≡ f n → (t || u) ≡ any (n + 1) f
-unfolding any
-any-next n f t u et eu = rw (add-one, et, eu)
-
-pub linked-end : (n m : ℕ) (f g : ℕ → ℕ → Bool) (x z : ℕ) (t : Bool) → t ≡ any n (λ y. f x y && g y z)
-    → n ≤ m
-    → m ≤ n
-    → t ≡ linked m f g x z
-unfolding linked
-linked-end n m f g x z t e h h′ = let d : n ≡ m = omega arith in rw (← d) e
-
-pub and-cong : {a a′ b b′ : Bool} → a ≡ a′ → b ≡ b′ → (a && b) ≡ (a′ && b′)
-and-cong e d = ap₂ _&&_ e d
-
--- ---- a relation's number from its lowest bit up
-
-pub lowest-none : (K : ℕ) (f : ℕ → ℕ → Bool) → 0 ≡ lowest K 0 f
-unfolding lowest number
-lowest-none K f = refl
-
-module _ (K n : ℕ) (f : ℕ → ℕ → Bool) (r : ℕ) (e : r ≡ lowest K n f) where
-  pub lowest-lt : r < 2 ^ n
-  unfolding lowest
-  lowest-lt = rw e (number-lt n (λ k. f (k / K) (k % K)))
-
-  pub lowest-next : (s : ℕ) (t : Bool) → s ≡ r + one-if t * 2 ^ n → t ≡ f (n / K) (n % K) → s ≡ lowest K (n + 1) f
-  unfolding lowest
-  lowest-next s t es et = rw (add-one, number-more, es, et, e)
-
-  pub lowest-end : n ≤ K * K → K * K ≤ n → r ≡ relation K f
-  unfolding relation
-  lowest-end h h′ = let d : n ≡ K * K = omega arith in rw (← d) e
-
--- a bit on top: the value in each arm
-pub top-on : (k : ℕ) (t : Bool) (r : ℕ) → k < 64 → t ≡ true → r + (1 * 2 ^ k) % 2 ^ 64 ≡ r + one-if t * 2 ^ k
-top-on k t r h e = rw (shl-one k 64 h, e) (omega arith)
-
-pub top-off : (k : ℕ) (t : Bool) (r : ℕ) → t ≡ false → r ≡ r + one-if t * 2 ^ k
-top-off k t r e = rw e (omega arith)
-
-pub top-fits : (k r : ℕ) → r < 2 ^ k → k < 64 → Fits w64 (r + (1 * 2 ^ k) % 2 ^ 64)
-top-fits k r hr h = record { fits = rw (shl-one k 64 h) (top-lt r k 64 hr h) }
+use Rattle.hedge.proofs.LaneLaws.{first-column}
+use Rattle.hedge.proofs.ThroughLaws.{first-column-of, first-row-of, times-through, through-moved, linked-none, linked-next}
 
 -- ---- the first rows, and the empty word before another
 
@@ -93,22 +48,64 @@ pub empty-before : (q empty left right s : ℕ) → q ≤ 8
     → s ≡ compose 8 q left right
 empty-before q empty left right s h e d f p = rw (d, e, unit-compose 8 q right h (f .fits)) p
 
+-- ---- composing by rows
+
+pub column-is : (r : ℕ) → bitAnd r 72340172838076673 ≡ relation 8 (firstColumn (has 8 r))
+column-is r = ap (bitAnd r) first-column ∙ first-column-of 8 r
+
+pub row-is : (r : ℕ) → r % 256 ≡ number 8 (has 8 r 0)
+row-is r = first-row-of 8 r
+
+module _ (left right c s : ℕ) (ec : c ≡ relation 8 (firstColumn (has 8 left))) (es : s ≡ number 8 (has 8 right 0)) where
+  pub crossed-is : c * s ≡ relation 8 (through (has 8 left) (has 8 right) 0)
+  crossed-is = rw (ec, es) (times-through 8 (omega arith) (has 8 left) (has 8 right))
+
+  pub crossed-fits : Fits w64 (c * s)
+  crossed-fits = record { fits = rw crossed-is (relation-lt 8 (through (has 8 left) (has 8 right) 0)) }
+
+pub composed-none : (left right : ℕ) → 0 ≡ relation 8 (linked 0 (has 8 left) (has 8 right))
+composed-none left right = linked-none 8 (has 8 left) (has 8 right)
+
+pub column-none : (r : ℕ) → r ≡ r / 2 ^ 0
+column-none r = omega arith
+
+pub row-none : (r : ℕ) → r ≡ r / 2 ^ (0 * 8)
+row-none r = omega arith
+
+pub column-next : (r y a : ℕ) → a ≡ r / 2 ^ y → a / 2 ^ 1 ≡ r / 2 ^ (y + 1)
+column-next r y a e = rw e (shr-shr r y 1)
+
+pub row-next : (r y b : ℕ) → b ≡ r / 2 ^ (y * 8) → b / 2 ^ 8 ≡ r / 2 ^ ((y + 1) * 8)
+row-next r y b e = let d : (y + 1) * 8 ≡ y * 8 + 8 = omega arith in rw (e, d) (shr-shr r (y * 8) 8)
+
+module _ (left right y r : ℕ) (er : r ≡ relation 8 (linked y (has 8 left) (has 8 right))) where
+  pub composed-next : (a b s : ℕ) → a ≡ left / 2 ^ y
+      → b ≡ right / 2 ^ (y * 8)
+      → s ≡ relation 8 (through (has 8 a) (has 8 b) 0)
+      → bitOr r s ≡ relation 8 (linked (y + 1) (has 8 left) (has 8 right))
+  composed-next a b s ea eb es =
+      rw (er, es, ea, eb, through-moved 8 left right y) (linked-next 8 (has 8 left) (has 8 right) y)
+
+  pub composed-end : (q : ℕ) → y ≤ q → q ≤ y → r ≡ compose 8 q left right
+  unfolding compose
+  composed-end q h h′ = let d : y ≡ q = omega arith in rw (← d) er
+
 pub ruleset turns = (
-  any-none,
-  any-next,
-  linked-end,
-  and-cong,
-  lowest-none,
-  lowest-lt,
-  lowest-next,
-  lowest-end,
-  top-on,
-  top-off,
-  top-fits,
   rows-power-positive,
   rows-some,
   rows-all,
   unit-is,
   empty-before,
+  column-is,
+  row-is,
+  crossed-is,
+  crossed-fits,
+  composed-none,
+  column-none,
+  row-none,
+  column-next,
+  row-next,
+  composed-next,
+  composed-end,
   needs,
 )

@@ -25,7 +25,7 @@ bit-of-rest r k i =
     bit-digit (r % 2 ^ (i + 1 + k)) k (bit r k)
     (ap (λ (n : ℕ). n % 2) (field r (i + 1) k) ∙ mod-mod-pow (r / 2 ^ k) i 1 ∙ digit-bit r k)
 
-bit-rest : (r n k : ℕ) → k < n → bit (r % 2 ^ n) k ≡ bit r k
+pub bit-rest : (r n k : ℕ) → k < n → bit (r % 2 ^ n) k ≡ bit r k
 bit-rest r n k h = let e : n - k - 1 + 1 + k ≡ n = omega arith in rw e at (bit-of-rest r k (n - k - 1))
 
 -- ---- the first q rows

@@ -22,6 +22,13 @@ same q x z = eqb x z && ltb x q
 unfoldable pub linked : ℕ → (ℕ → ℕ → Bool) → (ℕ → ℕ → Bool) → ℕ → ℕ → Bool
 linked q f g x z = any q (λ y. f x y && g y z)
 
+-- the pairs that go through y, on the left and on the right; and the pairs (x, 0)
+unfoldable pub through : (ℕ → ℕ → Bool) → (ℕ → ℕ → Bool) → ℕ → ℕ → ℕ → Bool
+through f g y x z = f x y && g y z
+
+unfoldable pub firstColumn : (ℕ → ℕ → Bool) → ℕ → ℕ → Bool
+firstColumn f x z = eqb z 0 && f x 0
+
 -- (y, t) with t ending
 unfoldable pub ended : List ℕ → (ℕ → ℕ → Bool) → ℕ → Bool
 ended ends f y = any (length ends) (λ j. f y (getD ends j 0))

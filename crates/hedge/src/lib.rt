@@ -1,32 +1,20 @@
-// Relations of at most eight states as numbers of 64 bits: the unit, composition, all pairs. Composition goes bit by bit, but for an empty
-// word on the left. What the numbers mean is shown in proofs/, over any number of states and any width of a row.
+// Relations of at most eight states as numbers of 64 bits: the unit, composition, all pairs. Composition goes by rows of the right relation,
+// but for an empty word on the left. What the numbers mean is shown in proofs/, over any number of states and any width of a row.
 ghost use mathlib.Core.Path.{_≡_};
-ghost use Prim.Native.Nat.{_+_, _*_, _%_, _^_, _<_, _≤_};
-ghost use Rattle.numbers.specs.Bits.{one-if, number};
+ghost use Prim.Native.Nat.{_*_, _%_, _^_, _≤_};
+ghost use Rattle.numbers.specs.Bits.{number};
 ghost use Rattle.hedge.specs.Schema.{mostStates};
 ghost use Rattle.hedge.specs.Relation.{has};
-ghost use Rattle.hedge.specs.Operations.{linked, unit, compose, belowBit, full, covers};
+ghost use Rattle.hedge.specs.Operations.{firstColumn, through, relation, unit, compose, belowBit, full, covers};
 
 // The most states.
 pub const STATES: usize = 8;
 
-// Does the relation have the pair (x, z)?
-fn has(r: u64, x: usize, z: usize) -> bool
-    requires { ⌜ x < 8 ⌝ }
-    requires { ⌜ z < 8 ⌝ }
-    ensures { λ t. ⌜ t ≡ has 8 r x z ⌝ }
-{
-    (r >> (x * 8 + z)) % 2 == 1
-}
+// The first bit of each row: the relation of (x, 0) for each of the most states x.
+const FIRST_COLUMN: u64 = 72340172838076673;
 
-// A number of k bits with the bit t above them.
-fn topped(r: u64, k: usize, t: bool) -> u64
-    requires { ⌜ r < 2 ^ k ⌝ }
-    requires { ⌜ k < 64 ⌝ }
-    ensures { λ s. ⌜ s ≡ r + one-if t * 2 ^ k ⌝ }
-{
-    if t { r + (1u64 << k) } else { r }
-}
+// The relation of (x, x) for each of the most states x.
+const DIAGONAL: u64 = 9241421688590303745;
 
 // The rows of the states there are.
 fn first_rows(states: usize, r: u64) -> u64
@@ -45,35 +33,46 @@ pub fn unit(states: usize) -> u64
     requires { ⌜ states ≤ mostStates ⌝ }
     ensures { λ r. ⌜ r ≡ unit 8 states ⌝ }
 {
-    first_rows(states, 9241421688590303745)
+    first_rows(states, DIAGONAL)
 }
 
-// Is there a state between x and z?
-fn linked(states: usize, left: u64, right: u64, x: usize, z: usize) -> bool
-    requires { ⌜ states ≤ mostStates ⌝ }
-    requires { ⌜ x < 8 ⌝ }
-    requires { ⌜ z < 8 ⌝ }
-    ensures { λ t. ⌜ t ≡ linked states (has 8 left) (has 8 right) x z ⌝ }
+// The first column: the first bit of each row, in its place.
+fn column(r: u64) -> u64
+    ensures { λ c. ⌜ c ≡ relation 8 (firstColumn (has 8 r)) ⌝ }
 {
-    let mut t = false;
-    let mut y = 0usize;
-    while y < states {
-        t = t | (has(left, x, y) & has(right, y, z));
-        y += 1;
-    }
-    t
+    r & FIRST_COLUMN
 }
 
-// The relation of two words in a row, bit by bit.
+// The first row.
+fn row(r: u64) -> u64
+    ensures { λ s. ⌜ s ≡ number 8 (has 8 r 0) ⌝ }
+{
+    r % 256
+}
+
+// The first row of the right relation in each row of the left that has state 0: all rows at once, since a row times 0 or 1 stays in its
+// place.
+fn crossed(left: u64, right: u64) -> u64
+    ensures { λ s. ⌜ s ≡ relation 8 (through (has 8 left) (has 8 right) 0) ⌝ }
+{
+    column(left) * row(right)
+}
+
+// The relation of two words in a row, by rows of the right one: for each state, what goes through it. Both relations are moved down by
+// a state in each turn, since a shift by a fixed number of bits is cheaper than one by a computed number.
 pub fn compose(states: usize, left: u64, right: u64) -> u64
     requires { ⌜ states ≤ mostStates ⌝ }
     ensures { λ r. ⌜ r ≡ compose 8 states left right ⌝ }
 {
     let mut r = 0u64;
-    let mut k = 0usize;
-    while k < 64 {
-        r = topped(r, k, linked(states, left, right, k / 8, k % 8));
-        k += 1;
+    let mut a = left;
+    let mut b = right;
+    let mut y = 0usize;
+    while y < states {
+        r = r | crossed(a, b);
+        a = a >> 1;
+        b = b >> 8;
+        y += 1;
     }
     r
 }
@@ -103,7 +102,7 @@ pub fn full(states: usize) -> u64
     requires { ⌜ states ≤ mostStates ⌝ }
     ensures { λ r. ⌜ r ≡ full 8 states ⌝ }
 {
-    first_rows(states, 72340172838076673) * whole_row(states)
+    first_rows(states, FIRST_COLUMN) * whole_row(states)
 }
 
 // Does the relation s have every pair of r?

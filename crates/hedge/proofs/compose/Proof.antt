@@ -1,29 +1,31 @@
--- The turn at k puts bit k, the test of the pair (k / 8, k % 8), on top of the k lowest bits of the composition. Assumes nothing.
+-- The turn at y joins what goes through y to what goes through the states below it; both relations have been moved down by y states.
+-- Assumes nothing.
 use mathlib.Core.Path.{_≡_}
-use Prim.Native.Nat.{_≤_, _-_}
+use Prim.Native.Nat.{_*_, _/_, _^_, _-_, _≤_}
 use Rattle.hedge.specs.Relation.{has}
-use Rattle.hedge.specs.Operations.{linked, lowest, compose}
+use Rattle.hedge.specs.Operations.{linked, relation}
 use Rattle.hedge.proofs.LoopLaws.{turns}
 use Rattle.hedge.proofs.compose.Statement.{statement}
 use Rattle.hedge.proofs.compose.Tie as tie
 
 abbrev Inv-loop : tie.InvT-loop
-Inv-loop states left right r₀ k₀ r k = (k ≤ 64) × (r ≡ lowest 8 k (linked states (has 8 left) (has 8 right)))
+Inv-loop states left right r₀ a₀ b₀ y₀ r a b y =
+    (y ≤ states)
+    × (a ≡ left / 2 ^ y)
+    × (b ≡ right / 2 ^ (y * 8))
+    × (r ≡ relation 8 (linked y (has 8 left) (has 8 right)))
 
 abbrev μ-loop : tie.MeasureT-loop
-μ-loop states left right r₀ k₀ r k = 64 - k
+μ-loop states left right r₀ a₀ b₀ y₀ r a b y = states - y
 
 loop-holds : tie.Need-loop-holds Inv-loop μ-loop
 loop-holds c = search turns
 
-linked-requires : tie.Need-linked-requires Inv-loop μ-loop
-linked-requires c κs = search turns
+crossed-requires : tie.Need-crossed-requires Inv-loop μ-loop
+crossed-requires c κs = search turns
 
-topped-requires : tie.Need-topped-requires Inv-loop μ-loop
-topped-requires c κs = search turns
-
-add-k : tie.Need-add-k Inv-loop μ-loop
-add-k c = search turns
+add-y : tie.Need-add-y Inv-loop μ-loop
+add-y c = search turns
 
 loop-less : tie.Need-loop-less Inv-loop μ-loop
 loop-less c = search turns
@@ -32,9 +34,7 @@ loop-again : tie.Need-loop-again Inv-loop μ-loop
 loop-again c = search turns
 
 returns : tie.Need-returns Inv-loop μ-loop
-unfolding compose
 returns c = search turns
 
 pub compose-spec : {M : Type 1} → statement M
-compose-spec =
-    tie.close (tie.spec Inv-loop μ-loop loop-holds linked-requires topped-requires add-k loop-less loop-again returns)
+compose-spec = tie.close (tie.spec Inv-loop μ-loop loop-holds crossed-requires add-y loop-less loop-again returns)
