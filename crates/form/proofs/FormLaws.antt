@@ -21,8 +21,7 @@ use Rattle.form.specs.declared.Summary.{Summary}
 use Rattle.form.specs.declared.Step.{Step}
 use Rattle.form.specs.declared.Step.the-variants.{Kept}
 use Rattle.form.proofs.HeldLaws.{tags-held, ends-first-held}
-use Rattle.form.proofs.TagLaws.{stepped-held}
-use Rattle.form.proofs.TurnLaws.{IsRefused, kept-holds, kept-room, kept-fits, held-value, holds-more}
+use Rattle.form.proofs.TurnLaws.{stepped-held, IsRefused, kept-holds, held-value, holds-more}
 use Rattle.form.proofs.TurnLaws.{refused-says, refused-value, refused-tag}
 
 module _ (lore : List ℕ) where
@@ -121,4 +120,4 @@ module _ (lore : List ℕ) where
         (turned-refused o e (more .names) (more .values) r f names′ values′ (k + 1) (tagCount (more .counts)) (omega arith)
         (turned-next o e (more .names) (more .values) d k names values r names′ values′ w q h i) ∙ sym form-turned)
 
-pub ruleset form-laws = (kept-holds, kept-room, kept-fits, holds-more, turned-none, turned-kept, form-end, form-refused, needs)
+pub ruleset form-laws = (kept-holds, holds-more, turned-none, turned-kept, form-end, form-refused, needs)

@@ -15,7 +15,7 @@ use Rattle.words.specs.Tags.{start, end}
 use Rattle.words.specs.Reduced.{bottom, push, OnlyEnds, EndsFirst, tags, starts, ends, net}
 use Rattle.pieces.specs.declared.Piece.{Piece}
 use Rattle.pieces.specs.Pieces.{mostTags, piecesLong, zeroPiece, pieceAt, putPiece}
-use Rattle.pieces.proofs.PieceLaws.{piece-same, piece-other, put-length, no-pieces}
+use Rattle.pieces.proofs.PieceLaws.{piece-same, piece-other, put-length, no-pieces, pieces-ext}
 use Rattle.form.specs.Held.{tagAt, stackOf, Unused}
 
 -- a tag by its place
@@ -148,6 +148,21 @@ unused-take n m v names values p h g l u =
 pub value-taken : (n m : ℕ) (v w : Piece) (values : List ℕ) → length values ≡ piecesLong → m ≤ mostTags
     → pieceAt (putPiece (putPiece values n w) m v) m ≡ v
 value-taken n m v w values h l = piece-same (putPiece values n w) m v (put-length values n w ∙ h) l
+
+-- a piece written over another
+pub value-over : (n : ℕ) (v w : Piece) (values : List ℕ) → length values ≡ piecesLong → n ≤ mostTags
+    → putPiece (putPiece values n v) n w ≡ putPiece values n w
+value-over n v w values h l =
+    pieces-ext (putPiece (putPiece values n v) n w) (putPiece values n w) (put-length (putPiece values n v) n w ∙ long)
+    (put-length values n w ∙ h) (λ k m. at k (ℕ-discrete k n))
+  where
+    long : length (putPiece values n v) ≡ piecesLong
+    long = put-length values n v ∙ h
+
+    at : (k : ℕ) → Dec (k ≡ n) → pieceAt (putPiece (putPiece values n v) n w) k ≡ pieceAt (putPiece values n w) k
+    at k (yes e) = rw e (piece-same (putPiece values n v) n w long l ∙ sym (piece-same values n w h l))
+    at k (no e) =
+        piece-other (putPiece values n v) n k w e ∙ piece-other values n k v e ∙ sym (piece-other values n k w e)
 
 -- counts
 

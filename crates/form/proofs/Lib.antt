@@ -1,6 +1,6 @@
 pub mod HeldLaws
-pub mod TagLaws
 pub mod TurnLaws
+pub mod TagLaws
 pub mod FormLaws
 pub mod PackLaws
 pub mod EndingLaws

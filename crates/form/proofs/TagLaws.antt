@@ -1,45 +1,32 @@
 -- One tag more on the arrays (specs/Steps.antt), case by case as the code meets them: a start or an end kept, or one too many; an end
 -- that meets a start of its own name, or of another. What the arrays hold follows from HeldLaws, what the tag makes of it from the
--- equations of a step and of the limit in words. The counts and the pieces that a function is told are variables, with equations. Assumes
--- nothing.
-use mathlib.Core.Path.{_≡_, sym, ap₂, _∙_}
-use mathlib.Core.Bool.{Bool, true, false}
+-- equations of a step and of the limit in words. A tag with a balanced word behind it follows from the tag alone by TurnLaws. The counts
+-- and the pieces that a function is told are variables, with equations. Assumes nothing.
+use mathlib.Core.Path.{_≡_, refl, sym, ap₂, _∙_}
+use mathlib.Core.Bool.{Bool, true, false, _&&_}
 use mathlib.Core.List.{List}
 use Prim.Native.Nat.{ℕ, suc, _+_, _-_, _≤_, _<_}
 use native.Mathlib.Omega.{arith}
+use lib.Dec.{ltb}
 use lib.ListN.{getD, set, length-set, replicate, length-replicate}
 use borrow.Author.Needs.{needs}
 use Rattle.words.specs.Tags.{Tag, start, end}
 use Rattle.words.specs.Reduced.{push, EndsFirst, tags}
-use Rattle.words.specs.Reader.{reduced, Limited, fits, differs, too-deep, limit}
+use Rattle.words.specs.Reader.{reduced, fits, limit}
 use Rattle.words.proofs.StepLaws.{step-push, step-same, step-other}
 use Rattle.words.proofs.LimitLaws.{limit-in, limit-out, limit-differ}
 use Rattle.pieces.specs.declared.Piece.{Piece}
 use Rattle.pieces.specs.Pieces.{mostTags, piecesLong, zeroPiece, pieceAt, putPiece, pieces, Counted}
 use Rattle.pieces.proofs.PieceLaws.{piece-same, put-length, put-counted, none-counted, counted-compose}
 use Rattle.form.specs.Held.{tagOf, stackOf, tagCount, summaryOf, formOf, lastOf, Holds}
-use Rattle.form.specs.Steps.{held, outcome, Stepped, after-tag}
+use Rattle.form.specs.Steps.{Stepped, after-tag, after-turn}
 use Rattle.form.specs.declared.Counts.{Counts}
 use Rattle.form.specs.declared.Summary.{Summary}
 use Rattle.form.specs.declared.Step.{Step}
 use Rattle.form.specs.declared.Step.the-variants.{Kept, Mismatch, TooDeep}
 use Rattle.form.proofs.HeldLaws.{tag-start, stack-last, stack-put-start, stack-put-end, stack-take}
 use Rattle.form.proofs.HeldLaws.{unused-none, unused-put, unused-take, value-taken, tags-held, only-ends-held, ends-first-held}
-
--- what a step says
-
-pub stepped-held : (c : Counts) (names values : List ℕ) (o : Limited Piece) → Holds (summaryOf c names values)
-    → held (summaryOf c names values) ≡ o → Stepped (Kept c) names values o
-unfolding outcome
-stepped-held c names values o h p = record { says = p; holds = h }
-
-pub stepped-differs : (a b : ℕ) (names values : List ℕ) (o : Limited Piece) → o ≡ differs a b → Stepped (Mismatch a b) names values o
-unfolding outcome
-stepped-differs a b names values o p = record { says = sym p; holds = tt }
-
-pub stepped-deep : (names values : List ℕ) (o : Limited Piece) → o ≡ too-deep → Stepped TooDeep names values o
-unfolding outcome
-stepped-deep names values o p = record { says = sym p; holds = tt }
+use Rattle.form.proofs.TurnLaws.{stepped-held, stepped-differs, stepped-deep, one-start, one-end, meets-none, turn-kept, from-tag}
 
 -- the arrays before any tag, and after a tag more or less
 
@@ -131,6 +118,11 @@ module _ (lore : List ℕ) (s : Summary) where
         → Stepped TooDeep names values (after-tag lore s (tagOf closes name))
     end-deep closes f z l = rw f (tag-deep (end name) (behind-ends name z) l)
 
+    pub stays-deep : (closes : Bool) → (closes && ltb 0 (s .counts .starts)) ≡ false → mostTags ≤ tagCount (s .counts)
+        → Stepped TooDeep names values (after-tag lore s (tagOf closes name))
+    stays-deep true t l = end-deep true refl (meets-none (s .counts .starts) true refl t) l
+    stays-deep false t l = start-deep false refl l
+
     -- a tag kept behind the others; v is the empty word's piece
     module _ (d : Counts) (v : Piece) (closes : Bool) (unit : v ≡ pieces lore .unit) (h : Holds s) (l : tagCount (s .counts) < mostTags)
         (p : names ≡ set (s .names) (tagCount (s .counts)) name) (q : values ≡ putPiece (s .values) (tagCount (s .counts) + 1) v) where
@@ -152,7 +144,7 @@ module _ (lore : List ℕ) (s : Summary) where
       start-kept f e =
           let n = tagCount (s .counts) in
           rw f
-          (tag-kept (start name) (rw e (omega arith)) (behind-all name)
+          (tag-kept (start name) (one-start d (s .counts .ends) (s .counts .starts) e) (behind-all name)
           (rw e
           (stack-put-start (s .counts .ends) n (n + 1) name v (s .names) (s .values) (omega arith) (omega arith)
           (omega (arith, h .names-long)))))
@@ -164,7 +156,7 @@ module _ (lore : List ℕ) (s : Summary) where
           let n = tagCount (s .counts) in
           let one : s .counts .ends + 1 ≡ n + 1 = omega arith in
           rw f
-          (tag-kept (end name) (rw e (omega arith)) (behind-ends name z)
+          (tag-kept (end name) (one-end d (s .counts .ends) (s .counts .starts) z e) (behind-ends name z)
           (rw (e, one)
           (stack-put-end (s .counts .ends) n (n + 1) name v (s .names) (s .values) (omega arith) (omega arith)
           (omega (arith, h .names-long)))))
@@ -181,38 +173,56 @@ module _ (lore : List ℕ) (s : Summary) where
         (rw (top-start l, ← top, step-other (pieces lore) S (pieceAt (s .values) (n - 1)) (lastOf s) a name other)
         (limit-differ (pieces lore) mostTags a name))
 
-    pub end-meets : (d : Counts) (before inner v : Piece) → Holds s → 0 < s .counts .starts
-        → getD (s .names) (tagCount (s .counts) - 1) 0 ≡ name → before ≡ pieceAt (s .values) (tagCount (s .counts) - 1)
-        → inner ≡ pieceAt (s .values) (tagCount (s .counts)) → v ≡ pieces lore .compose before (pieces lore .wrap name inner)
-        → names ≡ set (s .names) (tagCount (s .counts) - 1) 0
-        → values ≡ putPiece (putPiece (s .values) (tagCount (s .counts)) zeroPiece) (tagCount (s .counts) - 1) v
-        → d ≡ record { ends = s .counts .ends; starts = s .counts .starts - 1 }
-        → Stepped (Kept d) names values (after-tag lore s (end name))
-    unfolding after-tag
-    end-meets d before inner v h l m b w r p q e =
-        let n = tagCount (s .counts) in
-        let S = stackOf (s .counts .ends) (s .names) (s .values) (n - 1) in
-        let i = h .room in
-        let z : s .counts .ends + (s .counts .starts - 1) ≡ n - 1 = omega arith in
-        rw (p, q)
-        (stepped-held d (set (s .names) (n - 1) 0) (putPiece (putPiece (s .values) n zeroPiece) (n - 1) v) (after-tag lore s (end name))
-        (holds-take s d (n - 1) v (rw (e, z)) (omega arith) h (rw r (counted-compose lore before (pieces lore .wrap name inner))))
-        (rw (
-          e,
-          z,
-          top-start l,
-          m,
-          step-same (pieces lore) S (pieceAt (s .values) (n - 1)) (lastOf s) name,
-          ← b,
-          ← w,
-          ← r,
-          limit-in (pieces lore) mostTags S v (omega (arith, tags-held (s .counts .ends) (n - 1) (s .names) (s .values))),
-        )
-        (ap₂ fits (stack-take (s .counts .ends) n (n - 1) 0 v zeroPiece (s .names) (s .values) (omega arith))
-        (value-taken n (n - 1) v zeroPiece (s .values) (h .values-long) (omega arith)))))
+    -- of its own name: the start goes, and one piece takes the place of the two beside it
+    module _ (d : Counts) (before inner : Piece) (h : Holds s) (l : 0 < s .counts .starts)
+        (m : getD (s .names) (tagCount (s .counts) - 1) 0 ≡ name) (b : before ≡ pieceAt (s .values) (tagCount (s .counts) - 1))
+        (w : inner ≡ pieceAt (s .values) (tagCount (s .counts))) (p : names ≡ set (s .names) (tagCount (s .counts) - 1) 0)
+        (e : d ≡ record { ends = s .counts .ends; starts = s .counts .starts - 1 }) where
+      abbrev taken : Piece → List ℕ
+      taken v = putPiece (putPiece (s .values) (tagCount (s .counts)) zeroPiece) (tagCount (s .counts) - 1) v
+
+      abbrev whole : Piece
+      whole = pieces lore .compose before (pieces lore .wrap name inner)
+
+      one-less : tagCount d ≡ tagCount (s .counts) - 1
+      one-less = rw e (omega arith)
+
+      end-taken : Stepped (Kept d) names (taken whole) (after-tag lore s (end name))
+      unfolding after-tag
+      end-taken =
+          let n = tagCount (s .counts) in
+          let S = stackOf (s .counts .ends) (s .names) (s .values) (n - 1) in
+          let i = h .room in
+          rw p
+          (stepped-held d (set (s .names) (n - 1) 0) (taken whole) (after-tag lore s (end name))
+          (holds-take s d (n - 1) whole (sym one-less) (omega arith) h (counted-compose lore before (pieces lore .wrap name inner)))
+          (rw (
+            one-less,
+            e,
+            top-start l,
+            m,
+            step-same (pieces lore) S (pieceAt (s .values) (n - 1)) (lastOf s) name,
+            ← b,
+            ← w,
+            limit-in (pieces lore) mostTags S whole (omega (arith, tags-held (s .counts .ends) (n - 1) (s .names) (s .values))),
+          )
+          (ap₂ fits (stack-take (s .counts .ends) n (n - 1) 0 whole zeroPiece (s .names) (s .values) (omega arith))
+          (value-taken n (n - 1) whole zeroPiece (s .values) (h .values-long) (omega arith)))))
+
+      pub end-meets : (v : Piece) → v ≡ whole → values ≡ taken v → Stepped (Kept d) names values (after-tag lore s (end name))
+      end-meets v r q = rw (q, r) end-taken
+
+      -- and a balanced word behind it
+      pub end-cancels : (v u : Piece) → u ≡ pieces lore .compose whole v → values ≡ taken u
+          → Stepped (Kept d) names values (after-turn lore s (end name) v)
+      end-cancels v u r q =
+          let n = tagCount (s .counts) in
+          turn-kept lore s (end name) v names values d (n - 1) (putPiece (s .values) n zeroPiece) whole u q r one-less end-taken
 
     pub end-met : (closes : Bool) (r : Step) → closes ≡ true → Stepped r names values (after-tag lore s (end name))
         → Stepped r names values (after-tag lore s (tagOf closes name))
     end-met closes r f h = rw f h
 
 pub ruleset tag-laws = (start-deep, start-kept, end-deep, end-kept, end-differs, end-meets, end-met, needs)
+
+pub ruleset turn-laws = (start-kept, end-kept, stays-deep, end-differs, end-cancels, from-tag, needs)

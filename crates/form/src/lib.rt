@@ -57,20 +57,20 @@ pub fn counted(ends: usize, starts: usize) -> Counts
     }
 }
 
-// A tag behind the n first, and the empty word's piece behind it.
+// A tag behind the n first, and this piece behind it.
 fn put_tag(
     names: &mut [u8; pieces::TAGS],
     values: &mut [u64; pieces::PIECES],
     n: usize,
     name: u8,
-    empty: pieces::Piece,
+    value: pieces::Piece,
 )
     requires { ⌜ n < mostTags ⌝ }
     ensures { λ r. ⌜ (now (names .exit) ≡ set (now (names .entry)) n name)
-        × (now (values .exit) ≡ putPiece (now (values .entry)) (n + 1) empty) ⌝ }
+        × (now (values .exit) ≡ putPiece (now (values .entry)) (n + 1) value) ⌝ }
 {
     names[n] = name;
-    pieces::put_piece(values, n + 1, empty);
+    pieces::put_piece(values, n + 1, value);
 }
 
 // The last of n tags goes, and one piece takes the place of the two beside it.
@@ -181,7 +181,56 @@ fn add_value(
     pieces::put_piece(values, n, both);
 }
 
-// One tag more, and a balanced word of this piece.
+// The piece of a word, the element of this name around another word, and a word behind it.
+fn closed_between(
+    lore: &[u64; lore::LORE],
+    name: u8,
+    before: pieces::Piece,
+    inner: pieces::Piece,
+    behind: pieces::Piece,
+) -> pieces::Piece
+    requires { ⌜ IsLore mostStates (now lore) ⌝ }
+    ensures { λ r. ⌜ r ≡ pieces (now (lore .entry)) .compose
+        (pieces (now (lore .entry)) .compose before (pieces (now (lore .entry)) .wrap name inner)) behind ⌝ }
+{
+    let element = pieces::element(lore, name, inner);
+    let whole = pieces::follow(lore, before, element);
+    pieces::follow(lore, whole, behind)
+}
+
+// An end tag where starts stand unmatched, and a balanced word of this piece: the end meets the innermost.
+fn cancel(
+    lore: &[u64; lore::LORE],
+    names: &mut [u8; pieces::TAGS],
+    values: &mut [u64; pieces::PIECES],
+    c: Counts,
+    name: u8,
+    value: pieces::Piece,
+) -> Step
+    requires { ⌜ IsLore mostStates (now lore) ⌝ }
+    requires { ⌜ Holds (summaryOf c (now names) (now values)) ⌝ }
+    requires { ⌜ 0 < c .starts ⌝ }
+    ensures { λ r. ⌜ Stepped r (now (names .exit)) (now (values .exit))
+        (after-turn (now (lore .entry)) (summaryOf c (now (names .entry)) (now (values .entry))) (tagOf true name) value) ⌝ }
+{
+    let n = c.ends + c.starts;
+    let innermost = names[n - 1];
+    if innermost != name {
+        return Step::Mismatch(innermost, name);
+    }
+    let both = closed_between(
+        lore,
+        name,
+        pieces::piece_at(values, n - 1),
+        pieces::piece_at(values, n),
+        value,
+    );
+    take_tag(names, values, n, both);
+    Step::Kept(counted(c.ends, c.starts - 1))
+}
+
+// One tag more, and a balanced word of this piece. Not by `then_tag`: the compiler puts that into the loop over bytes only while reading
+// alone calls it.
 fn turn(
     lore: &[u64; lore::LORE],
     names: &mut [u8; pieces::TAGS],
@@ -196,12 +245,19 @@ fn turn(
     ensures { λ r. ⌜ Stepped r (now (names .exit)) (now (values .exit))
         (after-turn (now (lore .entry)) (summaryOf c (now (names .entry)) (now (values .entry))) (tagOf closes name) value) ⌝ }
 {
-    let s = then_tag(lore, names, values, c, closes, name);
-    let Step::Kept(d) = s else {
-        return s;
-    };
-    add_value(lore, values, d.ends + d.starts, value);
-    Step::Kept(d)
+    if closes & (0 < c.starts) {
+        return cancel(lore, names, values, c, name, value);
+    }
+    let kept = c.ends + c.starts;
+    if pieces::TAGS <= kept {
+        return Step::TooDeep;
+    }
+    let both = pieces::follow(lore, pieces::empty(lore), value);
+    put_tag(names, values, kept, name, both);
+    if closes {
+        return Step::Kept(counted(c.ends + 1, 0));
+    }
+    Step::Kept(counted(c.ends, c.starts + 1))
 }
 
 // A whole form more, whose tags and pieces stand in arrays of its own. Its first end meets the start that was opened last, its next end

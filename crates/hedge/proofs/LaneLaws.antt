@@ -4,7 +4,7 @@
 use mathlib.Core.Path.{_≡_, refl, sym, ap, ap₂, _∙_}
 use mathlib.Core.Bool.{Bool, true, false, _&&_}
 use Prim.Native.Nat.{ℕ, zero, suc, _+_, _-_, _*_, _/_, _%_, _^_, _≤_, _<_}
-use native.Mathlib.Nat.{mul-assoc, add-comm, zero-add, suc-add, pow-suc, one-mul, zero-mul, add-mul, suc-mul, mul-zero, mul-right-comm}
+use native.Mathlib.Nat.{add-comm, pow-suc, one-mul, zero-mul, add-mul, suc-mul, mul-zero, mul-right-comm}
 use native.Mathlib.Nat.{div-eq-of-lt, mod-eq-of-lt, add-div-left, add-mod-left}
 use native.Mathlib.Numerals.{add-one}
 use native.Mathlib.Omega.{arith}
@@ -16,28 +16,9 @@ use borrow.Author.Needs.{needs}
 use borrow.Author.Tests.{lt-ltb, le-ltb}
 use Rattle.numbers.specs.Bits.{bit, one-if, number}
 use Rattle.hedge.specs.Operations.{lowest, relation, below, belowBit, full}
-use Rattle.numbers.proofs.BitLaws.{bit-number, number-lt, number-ext, shl-one}
+use Rattle.numbers.proofs.BitLaws.{bit-number, number-lt, number-ext, number-cong, number-append, number-none, shl-one}
 use Rattle.hedge.proofs.RelationLaws.{relation-lt, relation-cong}
 use Rattle.hedge.proofs.UnitLaws.{relation-first-rows}
-
--- ---- a number in two parts
-
-number-cong : (n : ℕ) (f g : ℕ → Bool) → ((k : ℕ) → k < n → f k ≡ g k) → number n f ≡ number n g
-number-cong n f g e =
-    number-ext n (number n f) (number n g) (number-lt n f) (number-lt n g)
-    (λ k h. bit-number n f k h ∙ e k h ∙ sym (bit-number n g k h))
-
-number-append : (a b : ℕ) (f : ℕ → Bool) → number (a + b) f ≡ number a f + number b (λ k. f (a + k)) * 2 ^ a
-unfolding number
-number-append zero b f = simp zero-add (omega arith)
-number-append (suc a) b f =
-    simp (suc-add, pow-suc)
-    (rw (number-append a b (λ k. f (suc k)), ← mul-assoc (number b (λ k. f (suc (a + k)))) (2 ^ a) 2) (omega arith))
-
-pub number-none : (n : ℕ) → number n (λ k. false) ≡ 0
-unfolding number
-number-none zero = refl
-number-none (suc n) = rw (number-none n)
 
 -- a row of one bit
 column-row : (K : ℕ) → 0 < K → (b : Bool) → number K (λ z. eqb z 0 && b) ≡ one-if b

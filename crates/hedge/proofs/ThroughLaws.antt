@@ -1,40 +1,21 @@
 -- Composing by rows, at any width K of a row. What goes through state 0 is the first column of the left relation times the first row of
 -- the right one (LaneLaws). A relation moved down by y bits has its column y in front, one moved down by y rows its row y: so the same
 -- product gives what goes through y, and what goes through each state is joined to the composition. Assumes nothing.
-use mathlib.Core.Path.{_≡_, refl, sym, ap, ap₂, _∙_}
-use mathlib.Core.Bool.{Bool, true, false, _&&_, and-true, and-false}
+use mathlib.Core.Path.{_≡_, sym, ap, ap₂, _∙_}
+use mathlib.Core.Bool.{Bool, _&&_, and-true, and-false}
 use Prim.Native.Nat.{ℕ, zero, suc, _+_, _*_, _/_, _%_, _^_, _<_}
-use native.Mathlib.Nat.{mod-lt, lt-of-le-of-lt, div-div-eq-div-mul}
+use native.Mathlib.Nat.{mod-lt, lt-of-le-of-lt}
 use native.Mathlib.Numerals.{add-one}
 use native.Mathlib.Omega.{arith}
-use lib.Bits.{bitOr, bitAnd, and-shr, and-mod, and-le-r}
+use lib.Bits.{bitOr, bitAnd, and-le-r}
 use lib.Dec.{eqb, eqb·suc-zero}
-use lib.Pow.{pow-add, pow-pos}
-use Rattle.numbers.specs.Bits.{any, bit, one-if, number}
+use lib.Pow.{pow-pos}
+use Rattle.numbers.specs.Bits.{any, bit, number}
 use Rattle.hedge.specs.Relation.{has}
 use Rattle.hedge.specs.Operations.{linked, through, firstColumn, relation}
-use Rattle.numbers.proofs.BitLaws.{bit-number, number-lt, number-ext, digit-bit, bit-digit}
+use Rattle.numbers.proofs.BitLaws.{bit-number, number-lt, number-ext, bit-moved, bit-rest, bit-and}
 use Rattle.hedge.proofs.RelationLaws.{has-relation, relation-lt, relation-ext, relation-cong, relation-none, relation-or}
-use Rattle.hedge.proofs.UnitLaws.{bit-rest}
 use Rattle.hedge.proofs.LaneLaws.{lanes-times}
-
--- ---- bits of an intersection, and of a number moved down
-
-one-if-and : (a b : Bool) → bitAnd (one-if a) (one-if b) ≡ one-if (a && b)
-one-if-and true true = refl
-one-if-and true false = refl
-one-if-and false true = refl
-one-if-and false false = refl
-
-bit-and : (a b k : ℕ) → bit (bitAnd a b) k ≡ (bit a k && bit b k)
-bit-and a b k =
-    bit-digit (bitAnd a b) k (bit a k && bit b k)
-    (ap (λ (n : ℕ). n % 2) (and-shr a b k) ∙ and-mod (a / 2 ^ k) (b / 2 ^ k) 1 ∙ ap₂ bitAnd (digit-bit a k) (digit-bit b k)
-    ∙ one-if-and (bit a k) (bit b k))
-
-bit-moved : (r y k : ℕ) → bit (r / 2 ^ y) k ≡ bit r (y + k)
-unfolding bit
-bit-moved r y k = rw (div-div-eq-div-mul r (2 ^ y) (2 ^ k), ← (pow-add 2 y k))
 
 module _ (K : ℕ) where
   -- ---- the first column and the first row

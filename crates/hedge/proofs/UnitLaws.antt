@@ -1,32 +1,21 @@
 -- The empty word before another. The unit of q states composed with a relation leaves its first q rows, which are its remainder by
 -- 2 ^ (q * K): a pair (x, z) is on either side exactly when x is below q and the relation has it. So the unit of q states is the first
 -- q rows of that of all states. Assumes nothing.
-use mathlib.Core.Path.{_≡_, refl, sym, ap, _∙_}
+use mathlib.Core.Path.{_≡_, refl, sym, _∙_}
 use mathlib.Core.Bool.{Bool, true, false, false≢true, _&&_, and-true, and-false}
-use Prim.Native.Nat.{ℕ, _+_, _-_, _*_, _/_, _%_, _^_, _≤_, _<_}
+use Prim.Native.Nat.{ℕ, _+_, _*_, _%_, _^_, _≤_, _<_}
 use native.Mathlib.Nat.{mod-lt, mod-le, lt-of-lt-of-le, lt-of-le-of-lt, le-trans, le-add-right, mul-le-mul-right}
 use native.Mathlib.Decide.{decLt}
 use native.Mathlib.Omega.{arith}
 use lib.Arith.{digits-lt}
 use lib.Dec.{ltb}
-use lib.Pow.{pow-pos, field, mod-mod-pow}
+use lib.Pow.{pow-pos}
 use borrow.Author.Tests.{lt-ltb, le-ltb}
-use Rattle.numbers.specs.Bits.{bit}
 use Rattle.hedge.specs.Relation.{has}
 use Rattle.hedge.specs.Operations.{same, linked, relation, unit, compose}
 use Rattle.numbers.proofs.TestLaws.{ext-true}
-use Rattle.numbers.proofs.BitLaws.{digit-bit, bit-digit, bit-past}
+use Rattle.numbers.proofs.BitLaws.{bit-rest, bit-past}
 use Rattle.hedge.proofs.RelationLaws.{has-relation, relation-lt, relation-ext, relation-cong, unit-members, compose-members}
-
--- ---- bits of a remainder
-
-bit-of-rest : (r k i : ℕ) → bit (r % 2 ^ (i + 1 + k)) k ≡ bit r k
-bit-of-rest r k i =
-    bit-digit (r % 2 ^ (i + 1 + k)) k (bit r k)
-    (ap (λ (n : ℕ). n % 2) (field r (i + 1) k) ∙ mod-mod-pow (r / 2 ^ k) i 1 ∙ digit-bit r k)
-
-pub bit-rest : (r n k : ℕ) → k < n → bit (r % 2 ^ n) k ≡ bit r k
-bit-rest r n k h = let e : n - k - 1 + 1 + k ≡ n = omega arith in rw e at (bit-of-rest r k (n - k - 1))
 
 -- ---- the first q rows
 

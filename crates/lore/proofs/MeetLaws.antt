@@ -1,41 +1,23 @@
 -- A row that meets the ending states leads to an ending state: the row and the marks have a bit in common exactly when their
 -- intersection is not 0. Assumes nothing.
-use mathlib.Core.Path.{_≡_, refl, sym, ap, ap₂, _∙_}
+use mathlib.Core.Path.{_≡_, refl, sym, ap₂, _∙_}
 use mathlib.Core.Bool.{Bool, true, false, false≢true, _&&_}
 use mathlib.Core.List.{List}
-use Prim.Native.Nat.{ℕ, zero, suc, _+_, _*_, _/_, _%_, _^_, _<_}
-use native.Mathlib.Nat.{lt-of-le-of-lt, div-div-eq-div-mul}
+use Prim.Native.Nat.{ℕ, zero, suc, _*_, _/_, _^_, _<_}
+use native.Mathlib.Nat.{lt-of-le-of-lt}
 use native.Mathlib.Omega.{arith}
-use lib.Bits.{bitAnd, and-shr, and-mod, and-le-r}
+use lib.Bits.{bitAnd, and-le-r}
 use lib.Dec.{eqb, ltb}
 use lib.ListN.{length, getD}
-use lib.Pow.{pow-add, pow-pos}
+use lib.Pow.{pow-pos}
 use borrow.Author.Tests.{eqb-true, eq-eqb, ltb-true, lt-ltb}
-use Rattle.numbers.specs.Bits.{bit, any, one-if, number}
+use Rattle.numbers.specs.Bits.{bit, any, number}
 use Rattle.hedge.specs.Schema.{EndsBelow}
 use Rattle.hedge.specs.Relation.{has}
 use Rattle.hedge.specs.Operations.{ended}
 use Rattle.numbers.proofs.TestLaws.{ext-true, and-out, any-in, any-out}
-use Rattle.numbers.proofs.BitLaws.{bit-number, number-lt, number-ext, digit-bit, bit-digit, bit-past}
+use Rattle.numbers.proofs.BitLaws.{bit-number, number-lt, number-ext, bit-moved, bit-and, bit-past}
 use Rattle.lore.specs.Lore.{marked, meets}
-
--- ---- bits of an intersection, and of a shifted number
-
-one-if-and : (a b : Bool) → bitAnd (one-if a) (one-if b) ≡ one-if (a && b)
-one-if-and true true = refl
-one-if-and true false = refl
-one-if-and false true = refl
-one-if-and false false = refl
-
-bit-and : (a b k : ℕ) → bit (bitAnd a b) k ≡ (bit a k && bit b k)
-bit-and a b k =
-    bit-digit (bitAnd a b) k (bit a k && bit b k)
-    (ap (λ (n : ℕ). n % 2) (and-shr a b k) ∙ and-mod (a / 2 ^ k) (b / 2 ^ k) 1 ∙ ap₂ bitAnd (digit-bit a k) (digit-bit b k)
-    ∙ one-if-and (bit a k) (bit b k))
-
-bit-shifted : (r y k : ℕ) → bit (r / 2 ^ y) k ≡ bit r (y + k)
-unfolding bit
-bit-shifted r y k = rw (div-div-eq-div-mul r (2 ^ y) (2 ^ k), ← (pow-add 2 y k))
 
 -- ---- a number that is not 0 has a bit
 
@@ -72,7 +54,7 @@ module _ (K : ℕ) (ends : List ℕ) (below : EndsBelow K ends) where
     unfolding has met
     met-bit k h =
         bit-and (r / 2 ^ (y * K)) (number K (marked ends (length ends))) k
-        ∙ ap₂ _&&_ (bit-shifted r (y * K) k) (marks-bit k h)
+        ∙ ap₂ _&&_ (bit-moved r (y * K) k) (marks-bit k h)
 
     met-lt : met < 2 ^ K
     unfolding met

@@ -1,7 +1,7 @@
 -- The element around a word, read off the lore, is that of the schema: the join over inner states of "the row is ended, and a rule has
 -- this name and inner state" is the test that some rule has this name and an inner state whose row is ended. At any width K. So the
 -- lore's binoid is the schema's, and a lore that a call is given has its laws. Assumes nothing.
-use mathlib.Core.Path.{_≡_, refl, sym, _∙_}
+use mathlib.Core.Path.{_≡_, refl, sym, ap, _∙_}
 use mathlib.Core.Bool.{Bool, true, false, _&&_, cond}
 use mathlib.Core.List.{List}
 use Prim.Native.Nat.{ℕ, zero, suc, _*_, _/_, _≤_, _<_}
@@ -21,15 +21,15 @@ use Rattle.hedge.specs.Operations.{ended, onePair, fires, wrapped, relation, un
 use Rattle.numbers.proofs.TestLaws.{ext-true, and-out, any-in, any-out}
 use Rattle.hedge.proofs.RelationLaws.{relation-cong, relation-none, relation-or}
 use Rattle.hedge.proofs.NumberLaws.{relations-laws}
-use Rattle.lore.specs.Lore.{loreLong, marked, reads, outer, placeOf, NamesBelow, Masks, Taught, IsLore}
-use Rattle.lore.specs.Lore.{statesIn, endingBits, emptyIn, metEntry, joined, taughtWrap, taughtAccepts, taught}
+use Rattle.lore.specs.Lore.{loreLong, marked, reads, outer, leafOf, placeOf, NamesBelow, Masks, Taught, IsLore}
+use Rattle.lore.specs.Lore.{statesIn, endingBits, emptyIn, meets, metEntry, joined, taughtWrap, taughtAccepts, taught}
 use Rattle.lore.proofs.MeetLaws.{off, meets-ended}
 
 -- ---- the tests
 
 -- some inner state below n is ended and has a rule
 unfoldable inside : List ℕ → List ℕ → ℕ → (ℕ → ℕ → Bool) → ℕ → ℕ → ℕ → Bool
-inside rules ends a f n x z = any n (λ y. ended ends f y && outer rules a y (length rules / 4) x z)
+inside rules ends a f n x z = any n (λ y. ended ends f y && outer rules a (λ v. eqb v y) (length rules / 4) x z)
 
 module _ (K : ℕ) (rules ends : List ℕ) (a : ℕ) (f : ℕ → ℕ → Bool) (x z : ℕ) where
   rule-fires : (i y : ℕ) → eqb (field rules i 1) a ≡ true
@@ -43,9 +43,9 @@ module _ (K : ℕ) (rules ends : List ℕ) (a : ℕ) (f : ℕ → ℕ → Bool) 
   inside-wrapped : inside rules ends a f K x z ≡ true → wrapped rules ends a f (length rules / 4) x z ≡ true
   unfolding inside outer reads onePair wrapped fires
   inside-wrapped t =
-      let (y, hy, u) = any-out K (λ y. ended ends f y && outer rules a y (length rules / 4) x z) t in
+      let (y, hy, u) = any-out K (λ y. ended ends f y && outer rules a (λ v. eqb v y) (length rules / 4) x z) t in
       let (e, o) = and-out (ended ends f y) u in
-      let (i, hi, p) = any-out (length rules / 4) (λ i. reads rules a y i x z) o in
+      let (i, hi, p) = any-out (length rules / 4) (λ i. reads rules a (λ v. eqb v y) i x z) o in
       let (p₁, p₂) = and-out (eqb (field rules i 1) a && eqb (field rules i 2) y) p in
       let (pa, py) = and-out (eqb (field rules i 1) a) p₁ in
       any-in (length rules / 4) (λ i. fires rules ends a f i x z) i hi
@@ -57,11 +57,11 @@ module _ (K : ℕ) (rules ends : List ℕ) (a : ℕ) (f : ℕ → ℕ → Bool) 
       let (i, hi, p) = any-out (length rules / 4) (λ i. fires rules ends a f i x z) t in
       let (p₁, p₂) = and-out (eqb (field rules i 1) a && ended ends f (field rules i 2)) p in
       let (pa, e) = and-out (eqb (field rules i 1) a) p₁ in
-      let o : outer rules a (field rules i 2) (length rules / 4) x z ≡ true =
-      any-in (length rules / 4) (λ k. reads rules a (field rules i 2) k x z) i hi
+      let o : outer rules a (λ v. eqb v (field rules i 2)) (length rules / 4) x z ≡ true =
+      any-in (length rules / 4) (λ k. reads rules a (λ v. eqb v (field rules i 2)) k x z) i hi
       (rw (pa, eq-eqb (field rules i 2) (field rules i 2) refl, p₂))
       in
-      any-in K (λ y. ended ends f y && outer rules a y (length rules / 4) x z) (field rules i 2) (below i hi .1) (rw (e, o))
+      any-in K (λ y. ended ends f y && outer rules a (λ v. eqb v y) (length rules / 4) x z) (field rules i 2) (below i hi .1) (rw (e, o))
 
 -- ---- names past the table
 
@@ -71,12 +71,12 @@ unnamed-entry K lore a y long h =
     List·getD-eq-default lore 0 (rw long (omega arith))
 
 unnamed : (rules : List ℕ) → NamesBelow mostNames rules → (a y : ℕ) → mostNames ≤ a → (x z : ℕ)
-    → outer rules a y (length rules / 4) x z ≡ false
+    → outer rules a (λ v. eqb v y) (length rules / 4) x z ≡ false
 unfolding outer reads onePair
 unnamed rules names a y ha x z =
-    off (outer rules a y (length rules / 4) x z)
+    off (outer rules a (λ v. eqb v y) (length rules / 4) x z)
     (λ t.
-    let (i, hi, p) = any-out (length rules / 4) (λ i. reads rules a y i x z) t in
+    let (i, hi, p) = any-out (length rules / 4) (λ i. reads rules a (λ v. eqb v y) i x z) t in
     let (q, _) = and-out (eqb (field rules i 1) a && eqb (field rules i 2) y) p in
     let (e, _) = and-out (eqb (field rules i 1) a) q in
     let d : field rules i 1 ≡ a = eqb-true (field rules i 1) a e in
@@ -91,24 +91,24 @@ module _ (K : ℕ) (rules ends lore : List ℕ) where
 
   module _ (masks : Masks K rules (length rules / 4) lore) (names : NamesBelow mostNames rules) where
     -- the entries are those of the rules at every name: past the table there is neither
-    entries-all : (a y : ℕ) → y < K → getD lore (placeOf K a y) 0 ≡ relation K (outer rules a y (length rules / 4))
+    entries-all : (a y : ℕ) → y < K → getD lore (placeOf K a y) 0 ≡ relation K (outer rules a (λ v. eqb v y) (length rules / 4))
     entries-all a y hy =
         elim (decLt a mostNames) [
           | yes h ↦ masks .entries a y h hy
           | no h ↦
               unnamed-entry K lore a y (masks .long) (omega arith)
               ∙ relation-none K
-              ∙ relation-cong K (λ x z. false) (outer rules a y (length rules / 4))
+              ∙ relation-cong K (λ x z. false) (outer rules a (λ v. eqb v y) (length rules / 4))
               (λ x z hx hz. sym (unnamed rules names a y (omega arith) x z))
         ]
 
     module _ (below : EndsBelow K ends) (marks : endingBits lore ≡ number K (marked ends (length ends))) (a r : ℕ) where
       part-is : (y : ℕ) → y < K
-          → metEntry K lore a r y ≡ relation K (λ x z. ended ends (has K r) y && outer rules a y (length rules / 4) x z)
+          → metEntry K lore a r y ≡ relation K (λ x z. ended ends (has K r) y && outer rules a (λ v. eqb v y) (length rules / 4) x z)
       unfolding metEntry
       part-is y h =
           rw (marks, meets-ended K ends below r y, entries-all a y h)
-          (relation-when (ended ends (has K r) y) (outer rules a y (length rules / 4)))
+          (relation-when (ended ends (has K r) y) (outer rules a (λ v. eqb v y) (length rules / 4)))
 
       joined-is : (n : ℕ) → n ≤ K → joined K lore a r n ≡ relation K (inside rules ends a (has K r) n)
       unfolding joined inside any
@@ -192,6 +192,16 @@ module _ (lore : List ℕ) (l : IsLore mostStates lore) where
       taught-wrap mostStates (l .states) (l .rules) (l .ends) lore (l .taught)
       (rules-wider (l .states) mostStates (l .rules) (l .few) (l .rules-below)) (l .names-below)
       (ends-wider (l .states) mostStates (l .ends) (l .few) (l .ends-below)) a r
+
+  -- the leaf is the element around the empty word
+  pub lore-leaf : (a : ℕ) → a < mostNames → getD lore (leafOf a) 0 ≡ taughtWrap mostStates lore a (emptyIn lore)
+  unfolding outer reads wrap wrapped fires
+  lore-leaf a ha =
+      l .taught .leaves .leaves a ha
+      ∙ ap (λ (p : ℕ → Bool). relation mostStates (outer (l .rules) a p (length (l .rules) / 4)))
+      (λ i y. (ap (λ (m : ℕ). meets mostStates (emptyIn lore) m y) (l .taught .endings)
+      ∙ meets-ended mostStates (l .ends) (ends-wider (l .states) mostStates (l .ends) (l .few) (l .ends-below)) (emptyIn lore) y) i)
+      ∙ sym (lore-wrap a (emptyIn lore))
 
   abbrev pub lore-relations : Laws (relations mostStates (statesIn lore) (l .rules) (l .ends))
   lore-relations =

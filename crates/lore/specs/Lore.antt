@@ -1,6 +1,7 @@
 -- A schema taught into one list of numbers, its lore: entry 0 the number of states, 1 the ending states as bits, 2 the relation of the
--- empty word; from entry 8 on, for each name a and inner state y, the relation of all (x, z) with a rule x, a, y, z. The operations of
--- relations (Rules, section 5) are then read off it, and no rule is looked at again. K is the width of a row.
+-- empty word; from entry 8 on, for each name the relation of an element with nothing inside, its leaf; then, for each name a and inner
+-- state y, the relation of all (x, z) with a rule x, a, y, z. The operations of relations (Rules, section 5) are then read off it, and no
+-- rule is looked at again. K is the width of a row.
 use mathlib.Core.Path.{_≡_}
 use mathlib.Core.Bool.{Bool, _&&_, cond}
 use mathlib.Core.List.{List}
@@ -17,12 +18,15 @@ use Rattle.hedge.specs.Operations.{onePair, relation, unit, compose}
 
 -- ---- limits
 
--- the entries before the table, and all entries
+-- the entries before the leaves, those before the table, and all entries
 abbrev pub loreHead : ℕ
 loreHead = 8
 
+abbrev pub tableFrom : ℕ
+tableFrom = loreHead + mostNames
+
 abbrev pub loreLong : ℕ → ℕ
-loreLong K = loreHead + mostNames * K
+loreLong K = tableFrom + mostNames * K
 
 -- ---- what the lore says of a schema
 
@@ -30,13 +34,17 @@ loreLong K = loreHead + mostNames * K
 unfoldable pub marked : List ℕ → ℕ → ℕ → Bool
 marked ends n t = any n (λ j. eqb (getD ends j 0) t)
 
--- rule i reads x, a, y, z
-unfoldable pub reads : List ℕ → ℕ → ℕ → ℕ → ℕ → ℕ → Bool
-reads rules a y i x z = onePair (eqb (field rules i 1) a && eqb (field rules i 2) y) (field rules i 0) (field rules i 3) x z
+-- row y of the relation has a state that is marked
+unfoldable pub meets : ℕ → ℕ → ℕ → ℕ → Bool
+meets K r marks y = ltb 0 (bitAnd (r / 2 ^ (y * K)) marks)
+
+-- rule i reads x, a, y, z for a y that passes
+unfoldable pub reads : List ℕ → ℕ → (ℕ → Bool) → ℕ → ℕ → ℕ → Bool
+reads rules a p i x z = onePair (eqb (field rules i 1) a && p (field rules i 2)) (field rules i 0) (field rules i 3) x z
 
 -- one of the n first rules does
-unfoldable pub outer : List ℕ → ℕ → ℕ → ℕ → ℕ → ℕ → Bool
-outer rules a y n x z = any n (λ i. reads rules a y i x z)
+unfoldable pub outer : List ℕ → ℕ → (ℕ → Bool) → ℕ → ℕ → ℕ → Bool
+outer rules a p n x z = any n (λ i. reads rules a p i x z)
 
 -- the names of the rules are below n
 abbrev pub NamesBelow : ℕ → List ℕ → Type 0
@@ -52,21 +60,29 @@ endingBits lore = getD lore 1 0
 abbrev pub emptyIn : List ℕ → ℕ
 emptyIn lore = getD lore 2 0
 
--- the place of name a and inner state y
+-- the place of name a's leaf, and of name a and inner state y
+abbrev pub leafOf : ℕ → ℕ
+leafOf a = loreHead + a
+
 abbrev pub placeOf : ℕ → ℕ → ℕ → ℕ
-placeOf K a y = loreHead + (a * K + y)
+placeOf K a y = tableFrom + (a * K + y)
 
 -- the entries of all names and inner states are those of the n first rules. How long the list is is said too: a function does not know
 -- it of an array that it was lent
 pub record Masks (K : ℕ) (rules : List ℕ) (n : ℕ) (lore : List ℕ) : Type 0 where
   pub long : length lore ≡ loreLong K
-  pub entries : (a y : ℕ) → a < mostNames → y < K → getD lore (placeOf K a y) 0 ≡ relation K (outer rules a y n)
+  pub entries : (a y : ℕ) → a < mostNames → y < K → getD lore (placeOf K a y) 0 ≡ relation K (outer rules a (λ v. eqb v y) n)
+
+-- and the leaves too: of those rules whose inner state the empty word leads to an ending one
+pub record Leaves (K marks empty : ℕ) (rules : List ℕ) (n : ℕ) (lore : List ℕ) : Type 0 where
+  pub leaves : (a : ℕ) → a < mostNames → getD lore (leafOf a) 0 ≡ relation K (outer rules a (meets K empty marks) n)
 
 pub record Taught (K q : ℕ) (rules ends lore : List ℕ) : Type 0 where
   pub states : statesIn lore ≡ q
   pub endings : endingBits lore ≡ number K (marked ends (length ends))
   pub empty : emptyIn lore ≡ unit K q
   pub masks : Masks K rules (length rules / 4) lore
+  pub leaves : Leaves K (endingBits lore) (emptyIn lore) rules (length rules / 4) lore
 
 -- the lore of some schema of at most K states: what every call asks of it
 pub record IsLore (K : ℕ) (lore : List ℕ) : Type 0 where
@@ -80,10 +96,6 @@ pub record IsLore (K : ℕ) (lore : List ℕ) : Type 0 where
   pub taught : Taught K states rules ends lore
 
 -- ---- the operations, read off the lore
-
--- row y of the relation has a state that is marked
-unfoldable pub meets : ℕ → ℕ → ℕ → ℕ → Bool
-meets K r marks y = ltb 0 (bitAnd (r / 2 ^ (y * K)) marks)
 
 -- the entry of inner state y, where its row meets the ending states
 unfoldable pub metEntry : ℕ → List ℕ → ℕ → ℕ → ℕ → ℕ

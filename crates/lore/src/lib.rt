@@ -1,5 +1,6 @@
 // A schema taught once a call into one lent table, its lore; the relation of an element around a word is then read off it: the entries of
-// the inner states whose row meets the ending states, joined. What is read is at most eight entries, however many rules there are.
+// the inner states whose row meets the ending states, joined; for an element with nothing inside, of which pages have many, one entry, its
+// leaf. What is read is at most eight entries, however many rules there are.
 ghost use mathlib.Core.Path.{_≡_};
 ghost use mathlib.Core.Bool.{true, cond};
 ghost use Prim.Native.Nat.{_+_, _/_, _<_, _≤_};
@@ -10,13 +11,15 @@ ghost use Rattle.numbers.specs.Fields.{field};
 ghost use Rattle.words.specs.Tags.{mostNames};
 ghost use Rattle.hedge.specs.Schema.{mostStates, RulesBelow, EndsBelow};
 ghost use Rattle.hedge.specs.Operations.{relation, onePair, compose};
-ghost use Rattle.lore.specs.Lore.{loreLong, statesIn, emptyIn, NamesBelow, marked, placeOf, zeros, Masks, Taught, IsLore};
+ghost use Rattle.lore.specs.Lore.{loreLong, statesIn, emptyIn, NamesBelow, marked, leafOf, placeOf, zeros, Masks, Leaves, Taught, IsLore};
 ghost use Rattle.lore.specs.Lore.{meets, metEntry, taughtWrap, taughtAccepts};
 
-// The entries of a lore before its table, and all its entries.
-pub const HEAD: usize = 8;
+// The entries of a lore before its leaves, those before its table, and all its entries.
+const HEAD: usize = 8;
 
-pub const LORE: usize = HEAD + words::NAMES * hedge::STATES;
+const TABLE: usize = HEAD + words::NAMES;
+
+pub const LORE: usize = TABLE + words::NAMES * hedge::STATES;
 
 // The ending states as the bits of a number.
 fn ending_marks(ends: &[u8]) -> u64
@@ -41,15 +44,21 @@ fn one_pair(x: usize, z: usize) -> u64
     1u64 << (x * hedge::STATES + z)
 }
 
-// The place of rule i's name and inner state.
-fn place(rules: &[u8], i: usize) -> usize
-    requires { ⌜ RulesBelow mostStates (now rules) ⌝ }
-    requires { ⌜ NamesBelow mostNames (now rules) ⌝ }
-    requires { ⌜ i < length (now rules) / 4 ⌝ }
-    ensures { λ r. ⌜ (r ≡ placeOf mostStates (field (now (rules .entry)) i 1) (field (now (rules .entry)) i 2))
-        × (r < loreLong mostStates) ⌝ }
+// The place of a name's leaf.
+fn leaf(name: usize) -> usize
+    requires { ⌜ name < mostNames ⌝ }
+    ensures { λ r. ⌜ (r ≡ leafOf name) × (r < loreLong mostStates) ⌝ }
 {
-    HEAD + (numbers::field(rules, i, 1) * hedge::STATES + numbers::field(rules, i, 2))
+    HEAD + name
+}
+
+// The place of a name and an inner state.
+fn place(name: usize, y: usize) -> usize
+    requires { ⌜ name < mostNames ⌝ }
+    requires { ⌜ y < mostStates ⌝ }
+    ensures { λ r. ⌜ (r ≡ placeOf mostStates name y) × (r < loreLong mostStates) ⌝ }
+{
+    TABLE + (name * hedge::STATES + y)
 }
 
 // The relation of rule i's outer pair.
@@ -69,29 +78,51 @@ fn add_pair(lore: &mut [u64; LORE], at: usize, pair: u64)
     lore[at] = lore[at] | pair;
 }
 
-// Rule i, behind those before it.
-fn teach_rule(rules: &[u8], i: usize, lore: &mut [u64; LORE])
+// Has row y of the relation a marked state?
+fn meets(r: u64, marks: u64, y: usize) -> bool
+    requires { ⌜ y < mostStates ⌝ }
+    ensures { λ t. ⌜ t ≡ meets mostStates r marks y ⌝ }
+{
+    0 < ((r >> (y * hedge::STATES)) & marks)
+}
+
+// The relation where t, else none.
+fn when(t: bool, r: u64) -> u64
+    ensures { λ s. ⌜ s ≡ cond t r 0 ⌝ }
+{
+    if t { r } else { 0 }
+}
+
+// Rule i, behind those before it: its pair is one of its name and inner state, and one of the name's leaf where the empty word leads that
+// state to an ending one. All is read before the first entry is written, so that nothing is read twice.
+fn teach_rule(rules: &[u8], i: usize, marks: u64, empty: u64, lore: &mut [u64; LORE])
     requires { ⌜ RulesBelow mostStates (now rules) ⌝ }
     requires { ⌜ NamesBelow mostNames (now rules) ⌝ }
     requires { ⌜ i < length (now rules) / 4 ⌝ }
     requires { ⌜ Masks mostStates (now rules) i (now lore) ⌝ }
-    ensures { λ r. ⌜ Masks mostStates (now (rules .entry)) (i + 1) (now (lore .exit)) ⌝ }
+    requires { ⌜ Leaves mostStates marks empty (now rules) i (now lore) ⌝ }
+    ensures { λ r. ⌜ Masks mostStates (now (rules .entry)) (i + 1) (now (lore .exit))
+        × Leaves mostStates marks empty (now (rules .entry)) (i + 1) (now (lore .exit)) ⌝ }
 {
-    let at = place(rules, i);
+    let name = numbers::field(rules, i, 1);
+    let y = numbers::field(rules, i, 2);
     let pair = pair_of(rules, i);
-    add_pair(lore, at, pair);
+    let bare = when(meets(empty, marks, y), pair);
+    add_pair(lore, place(name, y), pair);
+    add_pair(lore, leaf(name), bare);
 }
 
 // All rules.
-fn teach_rules(rules: &[u8], lore: &mut [u64; LORE])
+fn teach_rules(rules: &[u8], marks: u64, empty: u64, lore: &mut [u64; LORE])
     requires { ⌜ RulesBelow mostStates (now rules) ⌝ }
     requires { ⌜ NamesBelow mostNames (now rules) ⌝ }
     requires { ⌜ now lore ≡ zeros (loreLong mostStates) ⌝ }
-    ensures { λ r. ⌜ Masks mostStates (now (rules .entry)) (length (now (rules .entry)) / 4) (now (lore .exit)) ⌝ }
+    ensures { λ r. ⌜ Masks mostStates (now (rules .entry)) (length (now (rules .entry)) / 4) (now (lore .exit))
+        × Leaves mostStates marks empty (now (rules .entry)) (length (now (rules .entry)) / 4) (now (lore .exit)) ⌝ }
 {
     let mut i = 0usize;
     while i < rules.len() / 4 {
-        teach_rule(rules, i, lore);
+        teach_rule(rules, i, marks, empty, lore);
         i += 1;
     }
 }
@@ -114,9 +145,9 @@ pub fn teach(rules: &[u8], ends: &[u8], states: usize, lore: &mut [u64; LORE])
     requires { ⌜ now lore ≡ zeros (loreLong mostStates) ⌝ }
     ensures { λ r. ⌜ Taught mostStates states (now (rules .entry)) (now (ends .entry)) (now (lore .exit)) ⌝ }
 {
-    teach_rules(rules, lore);
     let marks = ending_marks(ends);
     let empty = hedge::unit(states);
+    teach_rules(rules, marks, empty, lore);
     put_head(lore, states, marks, empty);
 }
 
@@ -135,29 +166,30 @@ pub fn follow(lore: &[u64; LORE], left: u64, right: u64) -> u64
     hedge::follow(lore[0] as usize, lore[2], left, right)
 }
 
-// Has row y of the relation a marked state?
-fn meets(r: u64, marks: u64, y: usize) -> bool
-    requires { ⌜ y < mostStates ⌝ }
-    ensures { λ t. ⌜ t ≡ meets mostStates r marks y ⌝ }
-{
-    0 < ((r >> (y * hedge::STATES)) & marks)
-}
-
-// The relation where t, else none.
-fn when(t: bool, r: u64) -> u64
-    ensures { λ s. ⌜ s ≡ cond t r 0 ⌝ }
-{
-    if t { r } else { 0 }
-}
-
-// The entry of a name and an inner state, where the state's row meets the ending states.
-fn part(lore: &[u64; LORE], name: u8, inner: u64, y: usize) -> u64
+// A relation joined with the entry of inner state y, where its row meets the ending states.
+fn join_entry(lore: &[u64; LORE], name: usize, inner: u64, y: usize, r: u64) -> u64
     requires { ⌜ name < mostNames ⌝ }
     requires { ⌜ y < mostStates ⌝ }
-    ensures { λ r. ⌜ r ≡ metEntry mostStates (now (lore .entry)) name inner y ⌝ }
+    ensures { λ s. ⌜ s ≡ bitOr r (metEntry mostStates (now (lore .entry)) name inner y) ⌝ }
 {
-    let met = meets(inner, lore[1], y);
-    when(met, lore[HEAD + (numbers::wide(name) * hedge::STATES + y)])
+    if meets(inner, lore[1], y) {
+        return r | lore[place(name, y)];
+    }
+    r
+}
+
+// The entries of a name's inner states whose row meets the ending states, joined.
+fn joined(lore: &[u64; LORE], name: usize, inner: u64) -> u64
+    requires { ⌜ name < mostNames ⌝ }
+    ensures { λ r. ⌜ r ≡ taughtWrap mostStates (now (lore .entry)) name inner ⌝ }
+{
+    let mut r = 0u64;
+    let mut y = 0usize;
+    while y < hedge::STATES {
+        r = join_entry(lore, name, inner, y, r);
+        y += 1;
+    }
+    r
 }
 
 // The relation of the element of this name around a word; no rule has a name past the most.
@@ -165,16 +197,14 @@ pub fn wrap(lore: &[u64; LORE], name: u8, inner: u64) -> u64
     requires { ⌜ IsLore mostStates (now lore) ⌝ }
     ensures { λ r. ⌜ r ≡ taughtWrap mostStates (now (lore .entry)) name inner ⌝ }
 {
-    if words::NAMES <= numbers::wide(name) {
+    let a = numbers::wide(name);
+    if words::NAMES <= a {
         return 0;
     }
-    let mut r = 0u64;
-    let mut y = 0usize;
-    while y < hedge::STATES {
-        r = r | part(lore, name, inner, y);
-        y += 1;
+    if inner == lore[2] {
+        return lore[leaf(a)];
     }
-    r
+    joined(lore, a, inner)
 }
 
 // Does state 0 derive a word of this relation?

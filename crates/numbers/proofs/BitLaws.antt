@@ -2,17 +2,16 @@
 -- number; `number-ext` (a number below 2 ^ n is determined by its n lowest bits) then turns a question about numbers into one about
 -- bits. Assumes nothing.
 use mathlib.Core.Path.{_≡_, refl, sym, ap, ap₂, _∙_}
-use mathlib.Core.Bool.{Bool, true, false, _||_}
-use Prim.Native.Nat.{ℕ, zero, suc, _+_, _*_, _/_, _%_, _^_, _≤_, _<_}
+use mathlib.Core.Bool.{Bool, true, false, _&&_, _||_}
+use Prim.Native.Nat.{ℕ, zero, suc, _+_, _-_, _*_, _/_, _%_, _^_, _≤_, _<_}
 use native.Mathlib.Nat.{pow-suc, one-mul, mul-div-cancel, div-eq-of-lt, lt-of-lt-of-le, mul-assoc, mul-comm}
-use native.Mathlib.Nat.{div-div-eq-div-mul, not-suc-le-zero, le-of-suc-le-suc}
+use native.Mathlib.Nat.{div-div-eq-div-mul, not-suc-le-zero, le-of-suc-le-suc, zero-add, suc-add}
 use native.Mathlib.Omega.{arith}
 use lib.Dec.{eqb, eqb·suc-zero, eqb·zero-suc, eqb·suc-suc}
-use lib.Pow.{shl-exact, pow-mono}
-use lib.Bits.{bitOr, or-shr, or-mod, or-lt}
+use lib.Pow.{shl-exact, pow-mono, pow-add, field, mod-mod-pow}
+use lib.Bits.{bitOr, bitAnd, or-shr, or-mod, or-lt, and-shr, and-mod}
 use borrow.Author.Tests.{eq-eqb, ne-eqb}
-use Rattle.numbers.specs.Bits.{bit}
-use Rattle.numbers.specs.Bits.{one-if, number}
+use Rattle.numbers.specs.Bits.{bit, one-if, number}
 
 -- ---- the lowest bit and the rest
 
@@ -36,6 +35,12 @@ one-if-lt false = omega arith
 one-if-eqb : (b : Bool) → eqb (one-if b) 1 ≡ b
 one-if-eqb true = refl
 one-if-eqb false = refl
+
+one-if-and : (a b : Bool) → bitAnd (one-if a) (one-if b) ≡ one-if (a && b)
+one-if-and true true = refl
+one-if-and true false = refl
+one-if-and false true = refl
+one-if-and false false = refl
 
 one-if-or : (a b : Bool) → bitOr (one-if a) (one-if b) ≡ one-if (a || b)
 one-if-or true true = refl
@@ -86,14 +91,43 @@ number-ext (suc n) a b ha hb e =
     in
     omega arith
 
--- one bit more on top
-pub number-more : (n : ℕ) (f : ℕ → Bool) → number (suc n) f ≡ number n f + one-if (f n) * 2 ^ n
-unfolding number
-number-more zero f = omega arith
-number-more (suc n) f =
-    rw (number-more n (λ k. f (suc k)), pow-suc, ← mul-assoc (one-if (f (suc n))) (2 ^ n) 2) (omega arith)
+-- equal bits, two parts, and no bit at all
+pub number-cong : (n : ℕ) (f g : ℕ → Bool) → ((k : ℕ) → k < n → f k ≡ g k) → number n f ≡ number n g
+number-cong n f g e =
+    number-ext n (number n f) (number n g) (number-lt n f) (number-lt n g)
+    (λ k h. bit-number n f k h ∙ e k h ∙ sym (bit-number n g k h))
 
--- ---- bits of a union
+pub number-append : (a b : ℕ) (f : ℕ → Bool) → number (a + b) f ≡ number a f + number b (λ k. f (a + k)) * 2 ^ a
+unfolding number
+number-append zero b f = simp zero-add (omega arith)
+number-append (suc a) b f =
+    simp (suc-add, pow-suc)
+    (rw (number-append a b (λ k. f (suc k)), ← mul-assoc (number b (λ k. f (suc (a + k)))) (2 ^ a) 2) (omega arith))
+
+pub number-none : (n : ℕ) → number n (λ k. false) ≡ 0
+unfolding number
+number-none zero = refl
+number-none (suc n) = rw (number-none n)
+
+-- ---- bits of a number moved down, of a remainder, of an intersection and of a union
+
+pub bit-moved : (r y k : ℕ) → bit (r / 2 ^ y) k ≡ bit r (y + k)
+unfolding bit
+bit-moved r y k = rw (div-div-eq-div-mul r (2 ^ y) (2 ^ k), ← (pow-add 2 y k))
+
+bit-of-rest : (r k i : ℕ) → bit (r % 2 ^ (i + 1 + k)) k ≡ bit r k
+bit-of-rest r k i =
+    bit-digit (r % 2 ^ (i + 1 + k)) k (bit r k)
+    (ap (λ (n : ℕ). n % 2) (field r (i + 1) k) ∙ mod-mod-pow (r / 2 ^ k) i 1 ∙ digit-bit r k)
+
+pub bit-rest : (r n k : ℕ) → k < n → bit (r % 2 ^ n) k ≡ bit r k
+bit-rest r n k h = let e : n - k - 1 + 1 + k ≡ n = omega arith in rw e at (bit-of-rest r k (n - k - 1))
+
+pub bit-and : (a b k : ℕ) → bit (bitAnd a b) k ≡ (bit a k && bit b k)
+bit-and a b k =
+    bit-digit (bitAnd a b) k (bit a k && bit b k)
+    (ap (λ (n : ℕ). n % 2) (and-shr a b k) ∙ and-mod (a / 2 ^ k) (b / 2 ^ k) 1 ∙ ap₂ bitAnd (digit-bit a k) (digit-bit b k)
+    ∙ one-if-and (bit a k) (bit b k))
 
 pub bit-or : (a b k : ℕ) → bit (bitOr a b) k ≡ (bit a k || bit b k)
 bit-or a b k =
@@ -121,9 +155,6 @@ bit-pow zero (suc k) = bit-past 1 1 (suc k) (omega arith) (omega arith) ∙ sym 
 bit-pow (suc i) zero = bit-digit (2 ^ suc i) 0 false (rw pow-suc (omega arith)) ∙ sym (eqb·zero-suc i)
 bit-pow (suc i) (suc k) = rw (bit-suc, pow-suc, mul-div-cancel (2 ^ i) {n = 2} (omega arith), bit-pow i k, eqb·suc-suc)
 
--- 1 << k in a word of n bits, and a number of k bits with it on top
+-- 1 << k in a word of n bits
 pub shl-one : (k n : ℕ) → k < n → (1 * 2 ^ k) % 2 ^ n ≡ 2 ^ k
 shl-one k n h = shl-exact {a = 1} 1 k n (omega arith) (omega arith) ∙ one-mul (2 ^ k)
-
-pub top-lt : (r k n : ℕ) → r < 2 ^ k → k < n → r + 2 ^ k < 2 ^ n
-top-lt r k n hr h = let p : 2 ^ k * 2 ≤ 2 ^ n = rw (← pow-suc 2 k) (pow-mono h) in omega arith

@@ -1,17 +1,16 @@
 -- Slots, choices and loading (specs/Slots.antt, specs/Turns.antt), in the words in which the functions that deal with them have it, for
 -- `search loads`. A byte's slot goes by three tests; an empty form, a tag's own form and the form of a row stand in the arrays, and a row
 -- of another nonterminal is no choice. Assumes nothing.
-use mathlib.Core.Path.{_≡_, sym, ap, subst, _∙_}
+use mathlib.Core.Path.{_≡_, refl, sym, ap, subst, _∙_}
 use mathlib.Core.Bool.{Bool, true, false, false≢true}
 use mathlib.Core.List.{List}
 use Prim.Native.Nat.{ℕ, _+_, _-_, _*_, _≤_, _<_}
-use native.Mathlib.Nat.{add-zero}
 use native.Mathlib.Omega.{arith}
 use lib.Dec.{ltb, eqb}
-use lib.ListN.{length, getD, set, take, drop}
+use lib.ListN.{length, set, take, drop}
 use borrow.Author.Needs.{needs}
 use borrow.Author.Tests.{lt-ltb, le-ltb, eqb-true, eq-eqb}
-use Rattle.numbers.specs.Fields.{field}
+use Rattle.words.specs.Reduced.{Stack}
 use Rattle.pieces.specs.declared.Piece.{Piece}
 use Rattle.pieces.specs.Pieces.{pieceAt, putPiece, Counted}
 use Rattle.pieces.proofs.PieceLaws.{piece-same}
@@ -25,8 +24,8 @@ use Rattle.rows.proofs.TableLaws.{row-part}
 use Rattle.worktable.specs.Packed.{rowWidth, nonterminalIn, summaryIn, RowOf}
 use Rattle.worktable.proofs.RowLaws.{row-nonterminal, row-holds, row-form, row-last}
 use Rattle.pairs.specs.Books.{tableRow}
-use Rattle.pairs.specs.Slots.{slotOf, leftSlot, rightSlot}
-use Rattle.pairs.specs.Turns.{slotFits, rightFrom, SomePairRow, Choosable, TagForm, FormOf, Loads}
+use Rattle.pairs.specs.Slots.{slotOf}
+use Rattle.pairs.specs.Turns.{slotFits, SomePairRow, Choosable, TagForm, FormOf, Loads}
 use Rattle.pairs.specs.declared.Slot.{Slot}
 use Rattle.pairs.specs.declared.Slot.the-variants.{Absent, Single, Rows}
 use Rattle.pairs.specs.declared.Loaded.{Loaded}
@@ -51,32 +50,7 @@ module _ (used : Bool) (b : ℕ) where
   unfolding slotOf
   slot-absent u = rw u
 
--- ---- the fields of a rule
-
-module _ (rules : List ℕ) (i : ℕ) where
-  pub rule-of : getD rules (i * 4) 0 ≡ field rules i 0
-  unfolding field
-  rule-of = rw add-zero
-
-  pub rule-left : (s : Slot) → s ≡ slotOf (ltb 0 (getD rules (i * 4 + 1) 0)) (getD rules (i * 4 + 2) 0) → s ≡ leftSlot rules i
-  unfolding field
-  rule-left s e = e
-
-  pub rule-right : (s : Slot) → s ≡ slotOf (ltb 1 (getD rules (i * 4 + 1) 0)) (getD rules (i * 4 + 3) 0) → s ≡ rightSlot rules i
-  unfolding field
-  rule-right s e = e
-
--- ---- which choices are joined
-
-module _ (r fits : Bool) (told : r ≡ fits) (j newLeft newRight rights : ℕ) where
-  pub right-new : r ≡ true → j < newLeft → newRight ≡ rightFrom fits (ltb j newLeft) newRight rights
-  right-new e l = rw (← told, e, lt-ltb j newLeft l)
-
-  pub right-all : r ≡ true → newLeft ≤ j → 0 ≡ rightFrom fits (ltb j newLeft) newRight rights
-  right-all e l = rw (← told, e, le-ltb j newLeft l)
-
-  pub right-none : r ≡ false → rights ≡ rightFrom fits (ltb j newLeft) newRight rights
-  right-none e = rw (← told, e)
+-- ---- a choice that fits
 
 module _ (s : Slot) (k : ℕ) (t : List ℕ) where
   pub fits-absent : s ≡ Absent → true ≡ slotFits s k t
@@ -96,6 +70,18 @@ module _ (s : Slot) (k : ℕ) (t : List ℕ) where
 
   pub row-packs : (x : ℕ) → Choosable t s k → s ≡ Rows x → SomePairRow (tableRow t k)
   row-packs x c e = (rw e at c) .1
+
+-- a choice that has a form fits
+row-of-fits : (t : List ℕ) (k x : ℕ) (form : Stack Piece) (last : Piece) → RowOf (tableRow t k) x form last
+    → eqb (nonterminalIn (tableRow t k)) x ≡ true
+row-of-fits t k x form last r = eq-eqb (nonterminalIn (tableRow t k)) x (row-nonterminal (tableRow t k) x form last r)
+
+pub form-fits : (empty : Piece) (t : List ℕ) (s : Slot) (k : ℕ) (form : Stack Piece) (last : Piece) → FormOf empty t s k form last
+    → slotFits s k t ≡ true
+unfolding slotFits
+form-fits empty t Absent k form last f = refl
+form-fits empty t (Single closes a) k form last f = refl
+form-fits empty t (Rows x) k form last f = row-of-fits t k x form last f
 
 -- ---- a row, as a part of the table
 
@@ -166,19 +152,13 @@ module _ (t : List ℕ) (k x : ℕ) (fits : Bool) (told : fits ≡ eqb (nontermi
 
   pub loads-nothing : (names values : List ℕ) → fits ≡ false → Loads (RowOf (tableRow t k) x) Nothing names values
   loads-nothing names values f form last r =
-      false≢true (sym f ∙ told ∙ eq-eqb (nonterminalIn (tableRow t k)) x (row-nonterminal (tableRow t k) x form last r))
+      false≢true (sym f ∙ told ∙ row-of-fits t k x form last r)
 
 pub ruleset loads = (
   slot-start,
   slot-end,
   slot-rows,
   slot-absent,
-  rule-of,
-  rule-left,
-  rule-right,
-  right-new,
-  right-all,
-  right-none,
   fits-absent,
   fits-single,
   fits-rows,

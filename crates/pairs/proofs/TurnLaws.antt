@@ -2,12 +2,13 @@
 -- zeros hold the empty form, what is loaded stands in the arrays, and joining on the arrays says what the join is under the limit (form's
 -- FormLaws, words' LimitLaws). Assumes nothing.
 use mathlib.Core.Path.{_≡_, sym, _∙_}
-use mathlib.Core.Bool.{Bool, true, _||_}
+use mathlib.Core.Bool.{Bool, true, false≢true, not, _||_}
 use mathlib.Core.List.{List}
 use Prim.Native.Nat.{ℕ, _≤_}
 use native.Mathlib.Omega.{arith}
 use lib.ListN.{length-replicate, replicate}
 use borrow.Author.Needs.{needs}
+use borrow.Author.Tests.{not-true}
 use Rattle.numbers.specs.Bits.{bit}
 use Rattle.words.specs.Reader.{Outcome, reduced, join}
 use Rattle.words.proofs.LimitLaws.{Answers, limit-iff}
@@ -21,7 +22,7 @@ use Rattle.form.specs.declared.Step.{Step}
 use Rattle.form.specs.declared.Step.the-variants as steps
 use Rattle.form.proofs.HeldLaws.{unused-none}
 use Rattle.form.proofs.FormLaws.{form-limit}
-use Rattle.pairs.specs.Turns.{FormOf, Loads, afterDeep, FormsNoted, OutcomeNoted, mismatches, is-deep, is-form}
+use Rattle.pairs.specs.Turns.{slotFits, FormOf, Loads, afterDeep, FormsNoted, OutcomeNoted, mismatches, is-deep, is-form}
 use Rattle.pairs.specs.Turns.{Turned, no-forms, joined}
 use Rattle.pairs.specs.declared.Slot.{Slot}
 use Rattle.pairs.specs.declared.Selection.{Selection}
@@ -30,6 +31,7 @@ use Rattle.pairs.specs.declared.Loaded.the-variants.{Form, Nothing}
 use Rattle.pairs.specs.declared.Tally.{Tally}
 use Rattle.pairs.specs.declared.Turn.{Turn}
 use Rattle.pairs.specs.declared.Turn.the-variants.{Kept, Mismatch}
+use Rattle.pairs.proofs.LoadLaws.{form-fits}
 
 -- ---- arrays of zeros
 
@@ -69,6 +71,12 @@ pub tally-deep : (found r : Tally) (b : Bool) (marks : ℕ) → b ≡ bit marks 
     → r ≡ record { rows = found .rows; notes = record { invalid = found .notes .invalid || b; deep = true; crowded = found .notes .crowded } }
     → r ≡ record { rows = found .rows; notes = afterDeep marks (found .notes) }
 tally-deep found r b marks e is = rw e at is
+
+-- a right choice that does not fit has no form
+pub turn-no-fit : (lore t : List ℕ) (pair : Selection) (marks : ℕ) (found : Tally) (fits : Bool) → fits ≡ slotFits (pair .right) (pair .k) t
+    → not fits ≡ true → Turned lore t pair marks found (Kept found) t
+turn-no-fit lore t pair marks found fits told off =
+    no-forms (λ s c u d f g. false≢true (sym (not-true fits off) ∙ told ∙ form-fits (pieces lore .unit) t (pair .right) (pair .k) u d g))
 
 module _ (lore t : List ℕ) (pair : Selection) (marks : ℕ) (found : Tally) (empty : Piece) (empty-is : empty ≡ pieces lore .unit) where
   pub turn-no-left : (a : Loaded) (names values : List ℕ) → Loads (FormOf empty t (pair .left) (pair .j)) a names values → a ≡ Nothing
@@ -120,4 +128,4 @@ module _ (lore t : List ℕ) (pair : Selection) (marks : ℕ) (found : Tally) (e
           let (v, h, q, l) = rw p at answers in
           rw is (turn-joined (Kept (record { rows = found .rows; notes = afterDeep marks (found .notes) })) t (is-deep v h q l))
 
-pub ruleset one-turn-laws = (empty-counted, zeros-hold, tally-deep, turn-no-right, needs)
+pub ruleset one-turn-laws = (empty-counted, zeros-hold, tally-deep, turn-no-fit, turn-no-right, needs)

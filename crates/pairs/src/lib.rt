@@ -14,7 +14,7 @@ ghost use Rattle.form.specs.Held.{tagCount, summaryOf, formOf, lastOf, Holds};
 ghost use Rattle.worktable.specs.Packed.{rowWidth, mostImages, tableLong, nonterminalIn, RowOf};
 ghost use Rattle.pairs.specs.Books.{tableRow};
 ghost use Rattle.pairs.specs.Slots.{slotOf};
-ghost use Rattle.pairs.specs.Turns.{SomePairRow, Choosable, TagForm, FormOf, Loads, isPage, invalidForm, afterDeep};
+ghost use Rattle.pairs.specs.Turns.{slotFits, SomePairRow, Choosable, TagForm, FormOf, Loads, isPage, invalidForm, afterDeep};
 ghost use Rattle.pairs.specs.Turns.{PairNoted, FormsNoted, Turned};
 
 // What stands at a place of a rule's right side: nothing, a tag, or the rows of a nonterminal.
@@ -74,13 +74,25 @@ pub fn slot_of(used: bool, byte: u8) -> Slot
 }
 
 // Is row k one of the nonterminal x?
-pub fn row_fits(table: &[u64], k: usize, x: u8) -> bool
+fn row_fits(table: &[u64], k: usize, x: u8) -> bool
     requires { ⌜ k * rowWidth + rowWidth ≤ length (now table) ⌝ }
     ensures { λ r. ⌜ r ≡ eqb (nonterminalIn (tableRow (now (table .entry)) k)) x ⌝ }
 {
     let at = k * worktable::ROW;
     let e = at + worktable::ROW;
     worktable::nonterminal(&table[at..e]) == x
+}
+
+// Is choice k of the slot one of its own: no row of another nonterminal?
+pub fn fits(s: Slot, k: usize, table: &[u64]) -> bool
+    requires { ⌜ Choosable (now table) s k ⌝ }
+    ensures { λ r. ⌜ r ≡ slotFits s k (now (table .entry)) ⌝ }
+{
+    match s {
+        Slot::Absent => true,
+        Slot::Single(_, _) => true,
+        Slot::Rows(x) => row_fits(table, k, x),
+    }
 }
 
 // Puts a tag's own form into two arrays of zeros.
@@ -251,7 +263,8 @@ fn note_form(
     tallied(m + 1, notes.deep, invalid, notes.crowded)
 }
 
-// A form of each marked nonterminal, in turn.
+// A form of each marked nonterminal, in turn. The marks are moved down from each to the next, and no turn is made once none is left, for
+// mostly there is one.
 fn note_forms(
     lore: &[u64; lore::LORE],
     marks: u64,
@@ -268,11 +281,13 @@ fn note_forms(
         (lastOf (summaryOf c (now (names .entry)) (now (values .entry)))) (now (table .entry)) found 64 r (now (table .exit)) ⌝ }
 {
     let mut tally = found;
+    let mut rest = marks;
     let mut x = 0u8;
-    while x < 64 {
-        if useful::marked(marks, numbers::wide(x)) {
+    while 0 < rest {
+        if rest % 2 == 1 {
             tally = note_form(lore, x, c, names, values, table, tally);
         }
+        rest = rest >> 1;
         x += 1;
     }
     tally
@@ -291,7 +306,8 @@ fn noted_deep(marks: u64, found: Tally) -> Tally
     )
 }
 
-// One pair of choices under rules of every marked nonterminal: joined once for all of them.
+// One pair of choices under rules of every marked nonterminal: joined once for all of them. Most right rows are other nonterminals', so the
+// right choice is looked at before any array is made.
 pub fn one_turn(
     lore: &[u64; lore::LORE],
     pair: Selection,
@@ -306,9 +322,12 @@ pub fn one_turn(
     requires { ⌜ found .rows ≤ mostImages ⌝ }
     ensures { λ r. ⌜ Turned (now (lore .entry)) (now (table .entry)) pair marks found r (now (table .exit)) ⌝ }
 {
-    let empty = pieces::empty(lore);
     let right = pair.right;
     let left = pair.left;
+    if !fits(right, pair.k, table) {
+        return Turn::Kept(found);
+    }
+    let empty = pieces::empty(lore);
     let mut tags = [0u8; pieces::TAGS];
     let mut parts = [0u64; pieces::PIECES];
     let b = load(empty, right, pair.k, table, &mut tags, &mut parts);

@@ -1,19 +1,22 @@
 -- A page's form, under the lore of a sound file: the two tests at a page's end say whether a word of this form is valid (crate schema), and
 -- either they say so or not. Every file has a lore, whose entries are written down here one by one. Assumes nothing.
 use mathlib.Core.Path.{_≡_, refl, ap, _∙_}
+use mathlib.Core.Bool.{Bool, cond}
 use mathlib.Core.List.{List, [], _∷_, _++_}
 use mathlib.Core.Logic.{_↔_}
-use Prim.Native.Nat.{ℕ, zero, suc, _+_, _*_, _/_, _%_, _<_}
+use Prim.Native.Nat.{ℕ, zero, suc, _+_, _-_, _*_, _/_, _%_, _<_}
 use native.Mathlib.Omega.{arith}
+use lib.Dec.{eqb, ltb}
 use lib.ListN.{length, getD}
 use lib.Seq.{getD-append-add}
+use borrow.Author.Tests.{lt-ltb, le-ltb}
 use Rattle.numbers.specs.Bits.{number}
 use Rattle.words.specs.Tags.{Tag, mostNames}
 use Rattle.words.specs.Balance.{Balanced}
 use Rattle.words.specs.Reduced.{Stack, Reduced}
 use Rattle.hedge.specs.Schema.{mostStates, Valid}
 use Rattle.hedge.specs.Operations.{relation, unit}
-use Rattle.lore.specs.Lore.{marked, outer}
+use Rattle.lore.specs.Lore.{loreHead, tableFrom, marked, meets, outer}
 use Rattle.pieces.specs.declared.Piece.{Piece}
 use Rattle.form.specs.Endings.{endingOf}
 use Rattle.form.specs.declared.Ending.{Ending}
@@ -62,27 +65,50 @@ entries-at g k (suc n) (suc j) h =
     entries-at g (suc k) n j (omega arith) ∙ ap g e
 
 module _ (f : List ℕ) where
-  -- the entry of name k / 8 and inner state k % 8
+  abbrev marks : ℕ
+  marks = number mostStates (marked (endingStates f) (length (endingStates f)))
+
+  abbrev empty : ℕ
+  empty = unit mostStates (states f)
+
+  -- the outer pairs of the rules of a name whose inner state passes
+  abbrev pairs : ℕ → (ℕ → Bool) → ℕ
+  pairs a p = relation mostStates (outer (schemaRules f) a p (length (schemaRules f) / 4))
+
+  -- behind the head, the leaf of name k, then the entry of name k / 8 and inner state k % 8
   maskAt : ℕ → ℕ
-  maskAt k = relation mostStates (outer (schemaRules f) (k / mostStates) (k % mostStates) (length (schemaRules f) / 4))
+  maskAt k = pairs (k / mostStates) (λ v. eqb v (k % mostStates))
+
+  entryAt : ℕ → ℕ
+  entryAt k = cond (ltb k mostNames) (pairs k (meets mostStates empty marks)) (maskAt (k - mostNames))
 
   abbrev headEntries : List ℕ
-  headEntries =
-      states f ∷ number mostStates (marked (endingStates f) (length (endingStates f))) ∷ unit mostStates (states f) ∷ 0 ∷ 0 ∷ 0 ∷ 0 ∷ 0 ∷ []
+  headEntries = states f ∷ marks ∷ empty ∷ 0 ∷ 0 ∷ 0 ∷ 0 ∷ 0 ∷ []
 
-  abbrev masks : List ℕ
-  masks = entriesFrom maskAt 0 (mostNames * mostStates)
+  abbrev entriesLong : ℕ
+  entriesLong = mostNames + mostNames * mostStates
 
   pub someLore : List ℕ
-  someLore = headEntries ++ masks
+  someLore = headEntries ++ entriesFrom entryAt 0 entriesLong
 
-  mask-is : (a y : ℕ) → y < mostStates
-      → maskAt (a * mostStates + y) ≡ relation mostStates (outer (schemaRules f) a y (length (schemaRules f) / 4))
-  unfolding maskAt
+  entry-is : (j : ℕ) → j < entriesLong → getD someLore (loreHead + j) 0 ≡ entryAt j
+  unfolding someLore
+  entry-is j h =
+      let e : 0 + j ≡ j = omega arith in
+      getD-append-add headEntries (entriesFrom entryAt 0 entriesLong) j 0 ∙ entries-at entryAt 0 entriesLong j h ∙ ap entryAt e
+
+  mask-is : (a y : ℕ) → y < mostStates → entryAt (mostNames + (a * mostStates + y)) ≡ pairs a (λ v. eqb v y)
+  unfolding entryAt maskAt
   mask-is a y h =
-      let d : (a * mostStates + y) / mostStates ≡ a = omega (arith, h) in
-      let m : (a * mostStates + y) % mostStates ≡ y = omega (arith, h) in
-      rw (d, m)
+      let j = a * mostStates + y in
+      let e : mostNames + j - mostNames ≡ j = omega arith in
+      let d : j / mostStates ≡ a = omega (arith, h) in
+      let m : j % mostStates ≡ y = omega (arith, h) in
+      rw (le-ltb (mostNames + j) mostNames (omega arith), e, d, m)
+
+  leaf-is : (a : ℕ) → a < mostNames → entryAt a ≡ pairs a (meets mostStates empty marks)
+  unfolding entryAt
+  leaf-is a h = rw (lt-ltb a mostNames h)
 
   pub some-taught : LoreOf f someLore
   unfolding someLore
@@ -91,11 +117,10 @@ module _ (f : List ℕ) where
     endings = refl;
     empty = refl;
     masks = record {
-      long = omega (arith, entries-length maskAt 0 (mostNames * mostStates));
+      long = omega (arith, entries-length entryAt 0 entriesLong);
       entries = λ a y ha hy.
-          let j = a * mostStates + y in
-          let e : 0 + j ≡ j = omega arith in
-          getD-append-add headEntries masks j 0
-          ∙ (entries-at maskAt 0 (mostNames * mostStates) j (omega (arith, ha, hy)) ∙ (ap maskAt e ∙ mask-is a y hy));
+          let e : tableFrom + (a * mostStates + y) ≡ loreHead + (mostNames + (a * mostStates + y)) = omega arith in
+          rw e (entry-is (mostNames + (a * mostStates + y)) (omega (arith, ha, hy)) ∙ mask-is a y hy);
     };
+    leaves = record { leaves = λ a ha. entry-is a (omega arith) ∙ leaf-is a ha };
   }

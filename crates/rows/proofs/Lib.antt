@@ -3,8 +3,11 @@ pub mod TableLaws
 pub mod OrderLaws
 pub mod PutLaws
 pub mod SortLaws
+pub mod SelectLaws
 pub mod CompareLaws
 pub mod LookLaws
 pub mod MoveLaws
+pub mod SwapLaws
+pub mod RunLaws
 pub mod StoreLaws
 pub mod ClearLaws

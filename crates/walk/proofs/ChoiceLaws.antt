@@ -1,20 +1,17 @@
--- Which choices are walked, in the words of the code, for `search choosing`: the slots of a rule's two places, the choices that fit, and
--- from which choice on they are walked, each by its tests. Assumes nothing.
+-- Which choices are walked, in the words of the code, for `search choosing`: the slots of a rule's two places, and from which choice on
+-- they are walked, each by its tests. Assumes nothing.
 use mathlib.Core.Path.{_≡_}
 use mathlib.Core.Bool.{Bool, true, false}
 use mathlib.Core.List.{List}
 use Prim.Native.Nat.{ℕ, _+_, _*_, _≤_, _<_}
-use lib.Dec.{ltb, eqb}
-use lib.ListN.{length, getD}
+use lib.Dec.{ltb}
+use lib.ListN.{getD}
 use borrow.Author.Needs.{needs}
 use borrow.Author.Tests.{lt-ltb, le-ltb}
 use Rattle.numbers.specs.Fields.{field}
-use Rattle.worktable.specs.Packed.{rowWidth, nonterminalIn}
-use Rattle.pairs.specs.Books.{tableRow}
 use Rattle.pairs.specs.Slots.{slotOf, leftSlot, rightSlot}
-use Rattle.pairs.specs.Turns.{slotFits, leftsOf, leftFrom, rightFrom, Choosable}
+use Rattle.pairs.specs.Turns.{leftsOf, leftFrom, rightFrom}
 use Rattle.pairs.specs.declared.Slot.{Slot}
-use Rattle.pairs.specs.declared.Slot.the-variants.{Absent, Single, Rows}
 
 -- the slots of a rule
 module _ (rules : List ℕ) (i : ℕ) (s : Slot) where
@@ -25,23 +22,6 @@ module _ (rules : List ℕ) (i : ℕ) (s : Slot) where
   pub rule-right : s ≡ slotOf (ltb 1 (getD rules (i * 4 + 1) 0)) (getD rules (i * 4 + 3) 0) → s ≡ rightSlot rules i
   unfolding field
   rule-right e = e
-
--- a choice that fits
-module _ (s : Slot) (k : ℕ) (t : List ℕ) where
-  pub fits-absent : s ≡ Absent → true ≡ slotFits s k t
-  unfolding slotFits
-  fits-absent e = rw e
-
-  pub fits-single : (closes : Bool) (a : ℕ) → s ≡ Single closes a → true ≡ slotFits s k t
-  unfolding slotFits
-  fits-single closes a e = rw e
-
-  pub fits-rows : (r : Bool) (x : ℕ) → s ≡ Rows x → r ≡ eqb (nonterminalIn (tableRow t k)) x → r ≡ slotFits s k t
-  unfolding slotFits
-  fits-rows r x e q = rw e q
-
-  pub row-within : (x : ℕ) → Choosable t s k → s ≡ Rows x → k * rowWidth + rowWidth ≤ length t
-  row-within x c e = (rw e at c) .0
 
 -- all left choices of a rule that is walked, else none; where some right choice is new every left choice is walked, else the new ones
 
@@ -72,10 +52,6 @@ module _ (r fits : Bool) (told : r ≡ fits) (j newLeft newRight rights : ℕ) w
 pub ruleset choosing = (
   rule-left,
   rule-right,
-  fits-absent,
-  fits-single,
-  fits-rows,
-  row-within,
   lefts-walked,
   lefts-none,
   left-all,

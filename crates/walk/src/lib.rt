@@ -69,18 +69,6 @@ fn new_from(s: pairs::Slot, prev: usize, first: bool) -> usize
     }
 }
 
-// Is choice k of the slot one of its own: no row of another nonterminal?
-fn fits(s: pairs::Slot, k: usize, table: &[u64]) -> bool
-    requires { ⌜ Choosable (now table) s k ⌝ }
-    ensures { λ r. ⌜ r ≡ slotFits s k (now (table .entry)) ⌝ }
-{
-    match s {
-        pairs::Slot::Absent => true,
-        pairs::Slot::Single(_, _) => true,
-        pairs::Slot::Rows(x) => pairs::row_fits(table, k, x),
-    }
-}
-
 // The first left choice to walk: where no right choice is new, only the new ones.
 fn left_from(new_left: usize, new_right: usize, rights: usize) -> usize
     ensures { λ r. ⌜ r ≡ leftFrom (ltb «new_right» rights) «new_left» ⌝ }
@@ -103,7 +91,7 @@ fn right_from(
     requires { ⌜ Choosable (now table) left j ⌝ }
     ensures { λ r. ⌜ r ≡ rightFrom (slotFits left j (now (table .entry))) (ltb j «new_left») «new_right» rights ⌝ }
 {
-    if fits(left, j, table) {
+    if pairs::fits(left, j, table) {
         if j < new_left {
             return new_right;
         }

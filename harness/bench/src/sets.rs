@@ -130,14 +130,31 @@ pub fn hostile(width: u8, half: u8, rules: u8, schema_rules: usize) -> Set {
         [right, 2, symbol(closer), symbol(closer)],
     ]);
     for i in 0..rules {
-        // The start first, then from the last nonterminal down.
-        let x = if i == 0 { 0 } else { 64 - i };
+        let x = sharer(i);
         set.rules.insert([x, 2, symbol(left), symbol(right)]);
         // The start gives the others, to make them useful; those that make up the pair are so already, and are no pages.
         if x >= free {
             set.rules.insert([0, 1, symbol(x), 255]);
         }
     }
+    set
+}
+
+/// The left side of the i-th rule over the pair: the start first, then from the last nonterminal down.
+fn sharer(i: u8) -> u8 {
+    if i == 0 {
+        0
+    } else {
+        64 - i
+    }
+}
+
+/// The same, but each of those rules' images is found in round 1, by a rule of its own: it stands among the first rows, where it else
+/// stands among the last.
+pub fn hostile_early(width: u8, half: u8, rules: u8) -> Set {
+    let mut set = hostile(width, half, rules, 0);
+    set.rules
+        .extend((0..rules).map(|i| [sharer(i), 2, width, 32 + width]));
     set
 }
 

@@ -71,8 +71,8 @@ fn timed(file: &[u8]) -> (u32, u64, [f64; 2]) {
 pub fn splits() {
     section(
         "Splits",
-        "Files of long rules. The written rules are sorted anew: those of new nonterminals stand last, so that each rule of a later left \
-         side is put in before them.",
+        "Files of long rules. The written rules are sorted: those of a new nonterminal are made where the long rule stands, and stand \
+         behind all others.",
     );
     let mut table = Growth::new(&["file", "bytes", "answer, number"]);
     for (label, file) in [

@@ -1,7 +1,8 @@
--- Before x the forms of the marked nonterminals below it are noted, and there are at most 256 rows (FormsLaws). Assumes nothing.
+-- Before x the forms of the marked nonterminals below it are noted, the marks have been moved down by x, and there are at most 256 rows
+-- (FormsLaws). Assumes nothing.
 use mathlib.Core.Path.{_≡_}
 use mathlib.Core.Logic.{⊎-elim}
-use Prim.Native.Nat.{_≤_, _-_}
+use Prim.Native.Nat.{_/_, _^_, _≤_}
 use lib.ListN.{length}
 use Rattle.form.specs.Held.{summaryOf, formOf, lastOf}
 use Rattle.worktable.specs.Packed.{mostImages}
@@ -11,25 +12,19 @@ use Rattle.pairs.proofs.note_forms.Statement.{statement}
 use Rattle.pairs.proofs.note_forms.Tie as tie
 
 abbrev Inv-loop : tie.InvT-loop
-Inv-loop lore marks c names values table₀ tally₀ x₀ table tally x =
-    (x ≤ 64) × (tally .rows ≤ mostImages) × (length table ≡ length table₀)
+Inv-loop lore marks c names values table₀ tally₀ rest₀ x₀ table tally rest x =
+    (x ≤ 64) × (rest ≡ marks / 2 ^ x) × (tally .rows ≤ mostImages) × (length table ≡ length table₀)
     × FormsNoted lore marks (formOf (summaryOf c names values)) (lastOf (summaryOf c names values)) table₀ tally₀ x tally table
 
 abbrev μ-loop : tie.MeasureT-loop
-μ-loop lore marks c names values table₀ tally₀ x₀ table tally x = 64 - x
+μ-loop lore marks c names values table₀ tally₀ rest₀ x₀ table tally rest x = rest
 
 loop-holds : tie.Need-loop-holds Inv-loop μ-loop
 loop-holds c = search forms-laws
 
-wide-requires : tie.Need-wide-requires Inv-loop μ-loop
-wide-requires c κs = search forms-laws
-
-marked-requires : tie.Need-marked-requires Inv-loop μ-loop
-marked-requires c κs = search forms-laws
-
 note-form-requires : tie.Need-note-form-requires Inv-loop μ-loop
 note-form-requires c κs =
-    let start = c .before .before .before .before .before .before .before in
+    let start = c .before .before .before .before .before in
     (start .pre .0, search forms-laws)
 
 add-x : tie.Need-add-x Inv-loop μ-loop
@@ -40,14 +35,14 @@ loop-less c = search forms-laws
 
 loop-again : tie.Need-loop-again Inv-loop μ-loop
 loop-again c =
-    let b = c .before in
-    let l = b .before .before .before in
+    let inv = c .before .before .loop .inv in
     ⊎-elim
     (λ w. rw (w .5, w .6) (
       search forms-laws,
       search forms-laws,
       search forms-laws,
-      search (forms-next, l .loop .inv .3, b .before .wide .ensures .0, b .marked .ensures, w .0 .taken, w .2 .ensures),
+      search forms-laws,
+      search (forms-next, inv .4, inv .1, w .0 .taken, w .2 .ensures),
     ))
     (λ w. rw (w .1, w .2) (search forms-laws))
     (c .if1 .came)
@@ -65,8 +60,6 @@ note-forms-spec =
     Inv-loop
     μ-loop
     loop-holds
-    wide-requires
-    marked-requires
     note-form-requires
     add-x
     loop-less

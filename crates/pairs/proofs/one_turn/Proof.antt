@@ -23,7 +23,16 @@ abbrev made : tie.After-parts2 → tie.After-empty
 made c = right-load c .before .before .before .before
 
 abbrev start : tie.After-parts2 → tie.Start
-start c = made c .before .before
+start c = made c .before .before .before .before .before
+
+fits-requires : tie.Need-fits-requires
+fits-requires c κs = search one-turn-laws
+
+same-length : tie.Need-same-length
+same-length c = search one-turn-laws
+
+returns : tie.Need-returns
+returns c = search one-turn-laws
 
 empty-requires : tie.Need-empty-requires
 empty-requires c κs = search one-turn-laws
@@ -37,11 +46,11 @@ enum-known-b c = search one-turn-laws
 enum-told : tie.Need-enum-told
 enum-told c = search one-turn-laws
 
-same-length : tie.Need-same-length
-same-length c = search one-turn-laws
+same-length-2 : tie.Need-same-length-2
+same-length-2 c = search one-turn-laws
 
-returns : tie.Need-returns
-returns c = search one-turn-laws
+returns-2 : tie.Need-returns-2
+returns-2 c = search one-turn-laws
 
 load-requires-2 : tie.Need-load-requires-2
 load-requires-2 c κs = search one-turn-laws
@@ -52,11 +61,11 @@ enum-known-a c = search one-turn-laws
 enum-told-2 : tie.Need-enum-told-2
 enum-told-2 c = search one-turn-laws
 
-same-length-2 : tie.Need-same-length-2
-same-length-2 c = search one-turn-laws
+same-length-3 : tie.Need-same-length-3
+same-length-3 c = search one-turn-laws
 
-returns-2 : tie.Need-returns-2
-returns-2 c =
+returns-3 : tie.Need-returns-3
+returns-3 c =
     let left-load = c .before .before in
     let right-load = left-load .before .before .before .before .before .before .before in
     search (turn-no-left, left-load .load2 .ensures, c .enum-told2 .given .1, right-load .before .before .before .before .empty .ensures)
@@ -88,11 +97,11 @@ enum-told-4 c = search one-turn-laws
 noted-deep-requires : tie.Need-noted-deep-requires
 noted-deep-requires c κs = search one-turn-laws
 
-same-length-3 : tie.Need-same-length-3
-same-length-3 c = search one-turn-laws
+same-length-4 : tie.Need-same-length-4
+same-length-4 c = search one-turn-laws
 
-returns-3 : tie.Need-returns-3
-returns-3 c =
+returns-4 : tie.Need-returns-4
+returns-4 c =
     let told = c .before .before .before .before .before .before .before in
     let q = told .before .before in
     let p = q .before in
@@ -108,11 +117,11 @@ returns-3 c =
       c .before .before .note-forms .ensures,
     )
 
-same-length-4 : tie.Need-same-length-4
-same-length-4 c = search one-turn-laws
+same-length-5 : tie.Need-same-length-5
+same-length-5 c = search one-turn-laws
 
-returns-4 : tie.Need-returns-4
-returns-4 c =
+returns-5 : tie.Need-returns-5
+returns-5 c =
     let q = c .before .before in
     let p = q .before in
     search (
@@ -126,11 +135,11 @@ returns-4 c =
       c .enum-told3 .given .1,
     )
 
-same-length-5 : tie.Need-same-length-5
-same-length-5 c = search one-turn-laws
+same-length-6 : tie.Need-same-length-6
+same-length-6 c = search one-turn-laws
 
-returns-5 : tie.Need-returns-5
-returns-5 c =
+returns-6 : tie.Need-returns-6
+returns-6 c =
     let q = c .before .before .before in
     let p = q .before in
     search (
@@ -149,26 +158,29 @@ pub one-turn-spec : {M : Type 1} → statement M
 one-turn-spec =
     tie.close
     (tie.spec
+    fits-requires
+    same-length
+    returns
     empty-requires
     load-requires
     enum-known-b
     enum-told
-    same-length
-    returns
+    same-length-2
+    returns-2
     load-requires-2
     enum-known-a
     enum-told-2
-    same-length-2
-    returns-2
+    same-length-3
+    returns-3
     then-form-requires
     enum-known-t
     note-forms-requires
     enum-told-3
     enum-told-4
     noted-deep-requires
-    same-length-3
-    returns-3
     same-length-4
     returns-4
     same-length-5
-    returns-5)
+    returns-5
+    same-length-6
+    returns-6)
