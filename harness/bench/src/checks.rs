@@ -1,7 +1,7 @@
 //! Checks: the library against the plain implementation.
 use crate::circles::{circle, large_circle, small_circle, with_back, with_barren, with_unreached};
 use crate::files::{chain, k, Set};
-use crate::sets::{hostile, hostile_early, program};
+use crate::sets::{hostile, hostile_early, hostile_middle, program};
 use crate::table::{section, Growth};
 use crate::timing::{best, job, now};
 use plain::{BUDGET, TABLE};
@@ -75,6 +75,10 @@ pub fn sets() {
         (
             "hostile, 2 tags, 10 rules, images found early",
             hostile_early(10, 1, 10),
+        ),
+        (
+            "hostile, 2 tags, 10 rules, images found in the middle",
+            hostile_middle(10, 10),
         ),
         ("hostile, 16 tags, 1 rule", hostile(10, 8, 1, 0)),
         (

@@ -158,6 +158,34 @@ pub fn hostile_early(width: u8, half: u8, rules: u8) -> Set {
     set
 }
 
+/// The same with forms of 2 tags, but all of those rules' images but the start's are found in the round that finds those of the pair, and
+/// between them: they stand in the middle of the rows.
+pub fn hostile_middle(width: u8, rules: u8) -> Set {
+    let mut set = hostile(width, 1, rules, 0);
+    let (right, step, twice, first) = (5, 6, 7, 8);
+    // The pair's right nonterminal becomes the last one, and the left sides of its rules stand before it.
+    let moved = |x: u8| match x {
+        _ if x == right => 63,
+        _ if x > right => first + 64 - x,
+        _ => x,
+    };
+    let place = |s: u8| match s {
+        64..=127 => symbol(moved(s - 64)),
+        _ => s,
+    };
+    set.rules = set
+        .rules
+        .iter()
+        .map(|r| [moved(r[0]), r[1], place(r[2]), place(r[3])])
+        .collect();
+    // A start of the tag in two steps, so that the element is found in round 3.
+    set.rules
+        .extend([[step, 1, width, 255], [twice, 1, symbol(step), 255]]);
+    set.rules
+        .extend((1..rules).map(|i| [first + i, 2, symbol(twice), 32 + width]));
+    set
+}
+
 /// Symbols that give `half` starts and `half` ends of a tag (half is 1, 2, 4 or 8), and the next free nonterminal.
 fn doubled(set: &mut Set, tag: u8, half: u8, steps: u8) -> (u8, u8, u8) {
     let (mut starts, mut ends, mut free, mut n) = (tag, 32 + tag, steps, 1);
