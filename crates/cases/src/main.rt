@@ -3,6 +3,8 @@
 // join, the left one's length first; S two summaries to join; N a summary's net depth; C a check, with its budget, the worktable's length
 // and the byte that fills it; L a file of long rules to split, after the output's length and the byte that fills it. tests/make_cases.py writes
 // the cases.
+#![tactic(auto)]
+
 mod checks;
 mod files;
 mod print;
@@ -12,7 +14,7 @@ mod summaries;
 use libc::STDIN_FILENO;
 
 // Where the next case stands, and the file that it stands under.
-#[derive(Drop)]
+#[derive(Clone, Copy)]
 struct Cursor {
     at: usize,
     from: usize,

@@ -1,18 +1,20 @@
 // The entries of a file's bodies: the tests of an entry in their order, and its first fault.
+#![tactic(auto)]
+
 ghost use Rattle.std.specs.Prelude.{◌≡◌, [], ◌∷◌, ◌+◌, ◌*◌, ◌≤◌, length};
 ghost use Rattle.entries.specs.Tests.{test, or_then, first_fault};
 ghost use Rattle.entries.specs.Entries.{rule_width, is_symbol, symbol_holds, symbol_tests, field_tests};
 ghost use Rattle.entries.specs.Entries.{width, precedes, ascends, entry_tests, body_tests};
 
 // Where the first fault is.
-#[derive(Drop)]
+#[derive(Clone, Copy)]
 pub enum Fault {
     Nowhere,
     At(usize),
 }
 
 // The three bodies of a file; a template rule has so many symbols.
-#[derive(Drop)]
+#[derive(Clone, Copy)]
 pub enum Body {
     Templates(u8),
     Schema,
@@ -20,7 +22,7 @@ pub enum Body {
 }
 
 // A file's three numbers, which its entries are tested by: names, nonterminals and states.
-#[derive(Drop)]
+#[derive(Clone, Copy)]
 pub struct Sizes {
     pub names: u8,
     pub nonterminals: u8,

@@ -1,6 +1,8 @@
 // A reduced form held in two lent arrays, the names of its tags and its pieces, with the numbers of its ends and starts beside them; one tag
 // more, a whole form more, and the two tests at a page's end. The arrays are lent, and no summary goes by value, because a copy for each
 // tag would take most of the time.
+#![tactic(auto)]
+
 ghost use Rattle.std.specs.Prelude.{◌≡◌, ◌+◌, ◌-◌, ◌<◌, ◌≤◌, true, set};
 ghost use Rattle.words.specs.Reduced.{Stack, tags};
 ghost use Rattle.hedge.specs.Schema.{most_states};
@@ -12,7 +14,7 @@ ghost use Rattle.form.specs.Steps.{Stepped, after_tag, after_turn, after_form};
 ghost use Rattle.form.specs.Endings.{balance_of, ending_of};
 
 // How many unmatched ends and starts.
-#[derive(Drop)]
+#[derive(Clone, Copy)]
 pub struct Counts {
     pub ends: usize,
     pub starts: usize,
@@ -20,7 +22,7 @@ pub struct Counts {
 
 // A reduced form by value: the numbers of its unmatched ends and starts, the names of the tags in their order, and the piece before each
 // tag and after the last.
-#[derive(Drop)]
+#[derive(Clone, Copy)]
 pub struct Summary {
     pub counts: Counts,
     pub names: [u8; pieces::TAGS],
@@ -28,7 +30,7 @@ pub struct Summary {
 }
 
 // After a tag: kept, with so many ends and starts; a start and an end of different names met; more than 16 tags.
-#[derive(Drop)]
+#[derive(Clone, Copy)]
 pub enum Step {
     Kept(Counts),
     Mismatch(u8, u8),
@@ -36,14 +38,14 @@ pub enum Step {
 }
 
 // The piece of what is balanced, or tags left unmatched.
-#[derive(Drop)]
+#[derive(Clone, Copy)]
 pub enum Balance {
     Whole(pieces::Piece),
     Unmatched,
 }
 
 // What the two tests at a page's end say; not derived is also what is not one element.
-#[derive(Drop)]
+#[derive(Clone, Copy)]
 pub enum Ending {
     Page,
     Unmatched,

@@ -1,5 +1,7 @@
 // Relations of at most eight states as numbers of 64 bits: the unit, composition, all pairs. Composition goes by rows of the right relation,
 // but for an empty word on the left. What the numbers mean is shown in proofs/, over any number of states and any width of a row.
+#![tactic(auto)]
+
 ghost use Rattle.std.specs.Prelude.{◌≡◌, ◌*◌, ◌%◌, ◌^◌, ◌≤◌};
 ghost use Rattle.numbers.specs.Bits.{number};
 ghost use Rattle.hedge.specs.Schema.{most_states};

@@ -1,5 +1,7 @@
 // The program's work without its input and output: a file checked, and the line that says what the check answered. Nothing is asked of what
 // is lent.
+#![tactic(auto)]
+
 ghost use Rattle.std.specs.Prelude.{◌≡◌, [], ◌∷◌, ◌++◌, ◌+◌, ◌≤◌, ◌%◌, length};
 ghost use Rattle.line.specs.Decimal.{digit_zero, digits, places, decimal, most_digits};
 ghost use Rattle.line.specs.Lines.{over_from, line_of, Shows, Prints};
@@ -14,7 +16,7 @@ pub const LONGEST: usize = 3 * (DIGITS + 1);
 pub const ROOM: usize = template::LONGEST + 1;
 
 // A line, and how many bytes it has; zeros behind it.
-#[derive(Drop)]
+#[derive(Clone, Copy)]
 pub struct Line {
     pub bytes: [u8; LONGEST],
     pub len: usize,

@@ -1,6 +1,8 @@
 // A schema taught once a call into one lent table, its lore; the relation of an element around a word is then read off it: the entries of
 // the inner states whose row meets the ending states, joined; for an element with nothing inside, of which pages have many, one entry, its
 // leaf. What is read is at most eight entries, however many rules there are.
+#![tactic(auto)]
+
 ghost use Rattle.std.specs.Prelude.{◌≡◌, true, cond, ◌+◌, ◌/◌, ◌<◌, ◌≤◌, length, get_or, set};
 ghost use Rattle.std.specs.Int.Bits.{bit_or};
 ghost use Rattle.numbers.specs.Bits.{number};

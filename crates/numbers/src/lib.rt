@@ -1,4 +1,6 @@
 // A byte and a number of 16 bits at the machine's width, and the fields of rules of four bytes. The crate's theory of bits and of tests is in specs/ and proofs/.
+#![tactic(auto)]
+
 ghost use Rattle.std.specs.Prelude.{◌≡◌, ◌/◌, ◌<◌, length};
 ghost use Rattle.numbers.specs.Fields.{field};
 
@@ -17,6 +19,7 @@ pub fn wide_half(x: u16) -> usize
 }
 
 // Field j of rule i, four bytes to a rule.
+#[tactic(auto, unfolding(crate::specs::Fields::field))]
 pub fn field(rules: &[u8], i: usize, j: usize) -> usize
     requires i_in_bounds { i < length rules.now / 4 }
     requires j_bound { j < 4 }

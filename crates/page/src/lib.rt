@@ -1,4 +1,6 @@
 // The page reader: reads a fragment, and then puts it to the two tests of a whole page. Any file and any bytes may be lent.
+#![tactic(auto)]
+
 ghost use Rattle.std.specs.Prelude.{◌≡◌};
 ghost use Rattle.template.specs.Order.{reading};
 ghost use Rattle.template.specs.declared.Reading.TheVariants.{Sound};
@@ -7,7 +9,7 @@ ghost use Rattle.form.specs.Endings.{ending_of};
 ghost use Rattle.page.specs.Pages.{PageSays, reply_of, refusal, answer, number};
 
 // What the page reader answers, with the place of the fault.
-#[derive(Drop)]
+#[derive(Clone, Copy)]
 pub enum PageReply {
     Valid,
     BadFile(usize),

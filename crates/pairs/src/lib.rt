@@ -1,5 +1,7 @@
 // One pair of choices under rules with the same right side: its two slots loaded from the rows of a table, joined, and the form noted for
 // the left side of each rule. What is new goes behind the rows that are there.
+#![tactic(auto)]
+
 ghost use Rattle.std.specs.Prelude.{◌≡◌, true, ◌+◌, ◌*◌, ◌≤◌, eqb, length};
 ghost use Rattle.words.specs.Reduced.{Stack, tags};
 ghost use Rattle.hedge.specs.Schema.{most_states};
@@ -14,7 +16,7 @@ ghost use Rattle.pairs.specs.Turns.{slot_fits, SomePairRow, Choosable, TagForm, 
 ghost use Rattle.pairs.specs.Turns.{PairNoted, FormsNoted, Turned};
 
 // What stands at a place of a rule's right side: nothing, a tag, or the rows of a nonterminal.
-#[derive(Drop)]
+#[derive(Clone, Copy)]
 pub enum Slot {
     Absent,
     Single(bool, u8),
@@ -22,7 +24,7 @@ pub enum Slot {
 }
 
 // Choice j of the left slot with choice k of the right one.
-#[derive(Drop)]
+#[derive(Clone, Copy)]
 pub struct Selection {
     pub left: Slot,
     pub j: usize,
@@ -31,7 +33,7 @@ pub struct Selection {
 }
 
 // What a walk noted: an invalid page, a string of more than 16 tags, more than 256 images.
-#[derive(Drop)]
+#[derive(Clone, Copy)]
 pub struct Notes {
     pub invalid: bool,
     pub deep: bool,
@@ -39,21 +41,21 @@ pub struct Notes {
 }
 
 // So many rows, and these notes.
-#[derive(Drop)]
+#[derive(Clone, Copy)]
 pub struct Tally {
     pub rows: usize,
     pub notes: Notes,
 }
 
 // A choice's form in the arrays, with so many ends and starts; or the row is another nonterminal's.
-#[derive(Drop)]
+#[derive(Clone, Copy)]
 pub enum Loaded {
     Form(form::Counts),
     Nothing,
 }
 
 // One pair of choices: the tally after it, or a mismatch.
-#[derive(Drop)]
+#[derive(Clone, Copy)]
 pub enum Turn {
     Kept(Tally),
     Mismatch,

@@ -1,5 +1,7 @@
 // The value of a piece, read and written at a place of one flat lent array, and the operations on pieces. No other crate knows how a
 // piece stands in the array.
+#![tactic(auto)]
+
 ghost use Rattle.std.specs.Prelude.{◌≡◌, true, ◌+◌, ◌≤◌};
 ghost use Rattle.words.specs.Binoid.{Binoid};
 ghost use Rattle.words.specs.Outermost.{at_most_several};
@@ -19,7 +21,7 @@ pub const SEVERAL: u64 = 2;
 
 // What stands before, between or after the tags of a form: the relation of a balanced word, and how many outermost elements it has, 0, 1,
 // or 2 for more.
-#[derive(Drop)]
+#[derive(Clone, Copy)]
 pub struct Piece {
     pub relation: u64,
     pub outermost: u64,

@@ -1,5 +1,7 @@
 // Reads a run of bytes, tag by tag and left to right, into the two lent arrays of a reduced form. The first byte that is no tag, that
 // makes a mismatch, or that makes one tag too many ends the reading at its place.
+#![tactic(auto)]
+
 ghost use Rattle.std.specs.Prelude.{◌≡◌};
 ghost use Rattle.hedge.specs.Schema.{most_states};
 ghost use Rattle.lore.specs.Lore.{IsLore};
@@ -10,7 +12,7 @@ ghost use Rattle.reader.specs.Reads.{Reads};
 ghost use Rattle.reader.specs.Feeds.{progress_of, Fed, Progressed};
 
 // How far reading came: all was read, with so many ends and starts; or it ended at a place.
-#[derive(Drop)]
+#[derive(Clone, Copy)]
 pub enum Progress {
     Read(form::Counts),
     NotATag(usize),

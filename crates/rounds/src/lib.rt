@@ -1,4 +1,6 @@
 // The check of a template set: useful nonterminals, then rounds of the walk against a budget, over the one lent worktable.
+#![tactic(auto)]
+
 ghost use Rattle.std.specs.Prelude.{◌≡◌, ◌≤◌, length};
 ghost use Rattle.template.specs.Layout.{template_rules};
 ghost use Rattle.template.specs.Order.{reading};
@@ -15,7 +17,7 @@ ghost use Rattle.rounds.specs.Answers.{answer, number, images};
 pub const ROUNDS: usize = worktable::IMAGES + 1;
 
 // What the check answers, with the round and, where it passed, the number of images.
-#[derive(Drop)]
+#[derive(Clone, Copy)]
 pub enum CheckReply {
     Passed(usize, usize),
     Mismatch(usize),
@@ -30,7 +32,7 @@ pub enum CheckReply {
 }
 
 // What a round met, the lowest number first; or none of these, with so many rows.
-#[derive(Drop)]
+#[derive(Clone, Copy)]
 pub enum Event {
     Mismatch,
     Invalid,

@@ -1,4 +1,6 @@
 // Writing a template file: the head and the contents, then each body into the part of the lent bytes that begins at its computed offset.
+#![tactic(auto)]
+
 ghost use Rattle.std.specs.Prelude.{◌≡◌, ◌++◌, ◌+◌, ◌*◌, ◌≤◌, ◌<◌, length, drop};
 ghost use Rattle.std.proofs.lemmas.List.Edits.{sets};
 ghost use Rattle.template.specs.Layout.{first_body, most_rules, most_schema_rules};

@@ -1,4 +1,6 @@
 // The schema of a sound file, taught once a call into a lent table. What a page's end means under a file is shown in proofs/.
+#![tactic(auto)]
+
 ghost use Rattle.std.specs.Prelude.{◌≡◌};
 ghost use Rattle.hedge.specs.Schema.{most_states};
 ghost use Rattle.lore.specs.Lore.{lore_long, zeros};

@@ -1,5 +1,7 @@
 // The program: one template file from standard input, one line on standard output (crate line). A line is printed only for an input that was
 // read to its end, or further than any sound file goes. Where a read fails or the line cannot be written, a sentence on standard error says so.
+#![tactic(auto)]
+
 ghost use Rattle.std.specs.Prelude.{◌≡◌, length};
 ghost use Rattle.line.specs.Lines.{room};
 ghost use Rattle.setcheck.specs.Inputs.{GivenWithin, ReadWithin};
@@ -7,7 +9,7 @@ ghost use Rattle.setcheck.specs.Inputs.{GivenWithin, ReadWithin};
 use libc::{STDERR_FILENO, STDIN_FILENO, STDOUT_FILENO};
 
 // What one read gave.
-#[derive(Drop)]
+#[derive(Clone, Copy)]
 enum Given {
     Bytes(usize),
     End,
@@ -16,7 +18,7 @@ enum Given {
 }
 
 // What all reads gave: the bytes at the start of the buffer, or a failure.
-#[derive(Drop)]
+#[derive(Clone, Copy)]
 enum Input {
     Whole(usize),
     Unread,

@@ -1,5 +1,7 @@
 // Rules with the same right side are walked once, where the first useful one of them stands: for which nonterminals each rule is walked is
 // found once a check.
+#![tactic(auto)]
+
 ghost use Rattle.std.specs.Prelude.{◌≡◌, true, ◌↔◌, ◌/◌, ◌<◌, ◌≤◌, length};
 ghost use Rattle.numbers.specs.Fields.{field};
 ghost use Rattle.template.specs.Layout.{most_rules};

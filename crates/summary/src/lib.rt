@@ -1,5 +1,7 @@
 // Fragment summaries: read from a run of bytes, joined, and their net depth. Any file, any bytes and any struct may be lent: each call
 // looks at them first, in the order of refusals (Rules, section 9).
+#![tactic(auto)]
+
 ghost use Rattle.std.specs.Prelude.{◌≡◌, true, cond, ◌↔◌, ◌+◌, ◌≤◌, ◌<◌, eqb, ltb, pos, ◌-ℤ◌, length};
 ghost use Rattle.hedge.specs.Schema.{most_states};
 ghost use Rattle.lore.specs.Lore.{IsLore};
@@ -13,7 +15,7 @@ ghost use Rattle.summary.specs.Joins.{SummaryUnder, JoinSays, DepthSays};
 ghost use Rattle.summary.specs.Answers.{fragment_answer, fragment_number, join_answer, join_number, depth_answer, depth_number, net_depth};
 
 // What reading a fragment answers, with the place of the fault.
-#[derive(Drop)]
+#[derive(Clone, Copy)]
 pub enum FragmentAnswer {
     Summarised,
     BadFile(usize),
@@ -23,14 +25,14 @@ pub enum FragmentAnswer {
 }
 
 // The answer, and beside it the summary, all zeros where it was refused.
-#[derive(Drop)]
+#[derive(Clone, Copy)]
 pub struct FragmentReply {
     pub answer: FragmentAnswer,
     pub summary: form::Summary,
 }
 
 // What joining answers.
-#[derive(Drop)]
+#[derive(Clone, Copy)]
 pub enum JoinAnswer {
     Joined,
     BadFile(usize),
@@ -39,14 +41,14 @@ pub enum JoinAnswer {
     TooDeep,
 }
 
-#[derive(Drop)]
+#[derive(Clone, Copy)]
 pub struct JoinReply {
     pub answer: JoinAnswer,
     pub summary: form::Summary,
 }
 
 // The net depth, or why there is none.
-#[derive(Drop)]
+#[derive(Clone, Copy)]
 pub enum DepthReply {
     Net(i32),
     BadFile(usize),

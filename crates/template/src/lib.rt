@@ -1,4 +1,6 @@
 // The template file: its first fault in the order of reading, its numbers, and its three lists as parts of the lent file.
+#![tactic(auto)]
+
 ghost use Rattle.std.specs.Prelude.{◌≡◌, ◌+◌, ◌*◌, ◌≤◌, ◌<◌, length};
 ghost use Rattle.entries.specs.Tests.{first_fault};
 ghost use Rattle.entries.specs.Entries.{most_symbols, rule_width};
@@ -24,7 +26,7 @@ const SYMBOLS: u8 = 2;
 pub const LONG_SYMBOLS: u8 = 12;
 
 // A sound file's numbers: names, nonterminals and states, and how many entries each body has.
-#[derive(Drop)]
+#[derive(Clone, Copy)]
 pub struct Shape {
     pub names: u8,
     pub nonterminals: u8,
@@ -35,7 +37,7 @@ pub struct Shape {
 }
 
 // What reading a file answers: sound with its numbers, or bad with the place of its first fault.
-#[derive(Drop)]
+#[derive(Clone, Copy)]
 pub enum Reading {
     Sound(Shape),
     Bad(usize),

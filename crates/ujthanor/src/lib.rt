@@ -1,5 +1,7 @@
 // What C and Rust link: numbers and slices only. Each call hands on to the crate that makes its promise, and lays the reply out in numbers
 // (Rules, section 9). A summary is a row in the worktable's layout, its nonterminal part 0 (section 10). Nothing is asked of what is lent.
+#![tactic(auto)]
+
 ghost use Rattle.std.specs.Prelude.{◌≡◌, ◌≤◌, length};
 ghost use Rattle.pieces.specs.Pieces.{most_tags, AllCounted};
 ghost use Rattle.form.specs.Held.{tag_count};

@@ -1,5 +1,7 @@
 // Which nonterminals are useful: those that derive some tag string, and among them those that the start reaches. Marks are the bits of a
 // number, for there are at most 64 nonterminals. Passes over the rules go on until one adds no mark.
+#![tactic(auto)]
+
 ghost use Rattle.std.specs.Prelude.{◌≡◌, true, ◌↔◌, ◌/◌, ◌<◌, length};
 ghost use Rattle.numbers.specs.Bits.{bit};
 ghost use Rattle.template.specs.Grammar.{right_side, Gives};

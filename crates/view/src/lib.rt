@@ -1,12 +1,14 @@
 // A template file shown as its three lists, which are parts of the lent file and no copies (Rules, section 4). A view holds the file and
 // how many entries each list has. A getter takes the view apart and calls a covered function on the slice and the numbers.
+#![tactic(auto)]
+
 ghost use Rattle.std.specs.Prelude.{◌≡◌};
 ghost use Rattle.template.specs.Order.{reading};
 ghost use Rattle.view.specs.Views.{view_of, counted, templates_shown, schema_shown, endings_shown};
 ghost use Rattle.view.specs.Views.{templates_by, schema_by, endings_by, templates_in, schema_in, endings_in};
 
 // The file, and how many template rules, schema rules and ending states it has.
-#[derive(Drop)]
+#[derive(Clone, Copy)]
 pub struct View<'a> {
     pub file: &'a [u8],
     pub templates: u16,

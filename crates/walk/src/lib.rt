@@ -2,6 +2,8 @@
 // lent table; what the walk finds goes behind them, so that no image of the same round is used. A pair of images of which both were there
 // two rounds ago was joined then, and is passed over; rules with the same right side are walked once, under the first useful one. Which
 // rules those are is found once a check, and a rule none of whose nonterminals has a new row costs one look a round.
+#![tactic(auto)]
+
 ghost use Rattle.std.specs.Prelude.{◌≡◌, ◌+◌, ◌*◌, ◌/◌, ◌<◌, ◌≤◌, ltb, length};
 ghost use Rattle.hedge.specs.Schema.{most_states};
 ghost use Rattle.lore.specs.Lore.{IsLore};
@@ -16,7 +18,7 @@ ghost use Rattle.walk.specs.News.{news, renews, PassedOver};
 ghost use Rattle.walk.specs.Walks.{ProperRows, RoundBegins, Walked};
 
 // Where a round begins: so many rows were there two rounds ago, so many are there now, and whether it is the first round.
-#[derive(Drop)]
+#[derive(Clone, Copy)]
 pub struct Round {
     pub prev: usize,
     pub rows: usize,
@@ -24,7 +26,7 @@ pub struct Round {
 }
 
 // Stopped at the first mismatch, or went through, with this tally.
-#[derive(Drop)]
+#[derive(Clone, Copy)]
 pub enum Walk {
     Stopped,
     Went(pairs::Tally),

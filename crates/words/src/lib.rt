@@ -1,12 +1,14 @@
 // What a byte of a page or fragment is. The crate's theory of words and their reduced forms is in specs/ and
 // proofs/.
+#![tactic(auto)]
+
 ghost use Rattle.words.specs.Classes.{Classed};
 
 // The most element names.
 pub const NAMES: usize = 32;
 
 // The start tag of a name, the end tag of a name, or no tag.
-#[derive(Drop)]
+#[derive(Clone, Copy)]
 pub enum Class {
     Start(u8),
     End(u8),

@@ -1,0 +1,46 @@
+-- The body's first entry ascends. A later one does where the entry before it precedes it: the two slices are the definition's
+-- parts of `wide` bytes. Assumes nothing.
+use mathlib.Core.Path.{◌∙◌}
+use borrow.Author.Rules.{rules}
+use Rattle.entries.proofs.AscentLaws.{ascends_first, ascends_later}
+use Rattle.entries.proofs.ascends.Goals as goal
+
+pub returns-then-at-first : goal.returns-then-at-first
+returns-then-at-first c = ascends_first c.args.wide c.args.file.now c.args.first c.args.at c.if-at-first.true
+
+pub overflow_sub-before : goal.overflow_sub-before
+overflow_sub-before c = search rules
+
+pub overflow_add-end : goal.overflow_add-end
+overflow_add-end c = search rules
+
+pub slice_bounds-precedes-count : goal.slice_bounds-precedes-count
+slice_bounds-precedes-count c = search rules
+
+pub slice_bounds-precedes-count-2 : goal.slice_bounds-precedes-count-2
+slice_bounds-precedes-count-2 c = search rules
+
+pub precedes-requires : goal.precedes-requires
+precedes-requires c = search rules
+
+pub returns : goal.returns
+returns c =
+    c.precedes.ensures
+    ∙ ascends_later c.args.wide c.args.file.now c.args.first c.args.at c.requires.0 c.if-at-first.false
+
+-- LEFT
+-- -- NONEED slice-bounds-precedes-start
+-- part-precedes-start : tie.Need-slice-bounds-precedes-start
+-- part-precedes-start c = search rules
+
+-- -- NONEED slice-bounds-precedes-end
+-- part-precedes-end : tie.Need-slice-bounds-precedes-end
+-- part-precedes-end c = search rules
+
+-- -- NONEED slice-bounds-precedes-start2
+-- part-precedes-start-2 : tie.Need-slice-bounds-precedes-start-2
+-- part-precedes-start-2 c = search rules
+
+-- -- NONEED slice-bounds-precedes-end2
+-- part-precedes-end-2 : tie.Need-slice-bounds-precedes-end-2
+-- part-precedes-end-2 c = search rules

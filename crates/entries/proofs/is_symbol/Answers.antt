@@ -1,0 +1,37 @@
+-- The ranges are asked from the lowest on, and each way out is a law of the definition at that range. Assumes nothing.
+use native.Mathlib.Omega.{arith}
+use borrow.Author.Rules.{rules}
+use Rattle.entries.proofs.RuleLaws.{byte_start, byte_below_ends, byte_end, byte_below_nonterminals, byte_nonterminal}
+use Rattle.entries.proofs.is_symbol.Goals as goal
+
+pub returns-then-byte-names : goal.returns-then-byte-names
+returns-then-byte-names c = byte_start _ _ _ c.if-byte-names.true
+
+pub wide-b-requires : goal.wide-b-requires
+wide-b-requires c = search rules
+
+pub returns-then-b-lt32 : goal.returns-then-b-lt32
+returns-then-b-lt32 c = byte_below_ends c.args.names c.args.nonterminals c.args.byte (omega arith) (omega arith)
+
+pub wide-requires : goal.wide-requires
+wide-requires c = search rules
+
+pub overflow_add-wide : goal.overflow_add-wide
+overflow_add-wide c = search rules
+
+pub returns-then-b-wide : goal.returns-then-b-wide
+returns-then-b-wide c = byte_end c.args.names c.args.nonterminals c.args.byte (omega arith) (omega arith) (omega arith)
+
+pub returns-then-b-lt64 : goal.returns-then-b-lt64
+returns-then-b-lt64 c = byte_below_nonterminals c.args.names c.args.nonterminals c.args.byte (omega arith) (omega arith)
+
+pub wide-requires-2 : goal.wide-requires-2
+wide-requires-2 c = search rules
+
+pub overflow_add-result : goal.overflow_add-result
+overflow_add-result c = search rules
+
+pub returns : goal.returns
+returns c =
+    rw (c.wide-b.ensures.0, c.wide-2.ensures.0)
+    (byte_nonterminal c.args.names c.args.nonterminals c.args.byte (omega arith) (omega arith))

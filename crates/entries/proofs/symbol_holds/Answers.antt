@@ -1,0 +1,12 @@
+-- A used place asks what `is_symbol` asks, an unused one compares with 255: the definition's two clauses. Assumes nothing.
+use borrow.Author.Rules.{rules}
+use Rattle.entries.proofs.symbol_holds.Goals as goal
+
+pub is_symbol-requires : goal.is_symbol-requires
+is_symbol-requires c = search rules
+
+pub returns-then-used : goal.returns-then-used
+returns-then-used c = rw c.if-used.true c.is_symbol.ensures
+
+pub returns-else-used : goal.returns-else-used
+returns-else-used c = rw c.if-used.false

@@ -1,0 +1,18 @@
+use mathlib.Core.Path.{◌≡◌, refl, ◌∙◌, sym}
+use Prim.Native.Nat.{◌-◌, ◌≤◌}
+use native.Mathlib.Omega.{arith}
+use borrow.Author.Rules.{rules}
+use borrow.Author.Tests.{not-true, not-false}
+use Rattle.entries.specs.Tests.{first_fault}
+use Rattle.entries.specs.Entries.{symbol_tests}
+use Rattle.entries.proofs.RuleLaws.{symbols_end, symbols-fault, symbols_further}
+use Rattle.entries.proofs.symbols_fault.Given as goal
+
+abbrev pub invariant-loop-j : goal.invariant-loop-j
+invariant-loop-j l =
+    (l.j ≤ l.symbols)
+    × (first_fault (symbol_tests l.s.names l.s.nonterminals l.file l.at 0 l.symbols)
+    ≡ first_fault (symbol_tests l.s.names l.s.nonterminals l.file l.at l.j (l.symbols - l.j)))
+
+abbrev pub decreases-loop-j : goal.decreases-loop-j
+decreases-loop-j l = l.symbols - l.j

@@ -1,0 +1,21 @@
+-- By the fault that is there, and where there is none by the test: each way is a clause of `or_then` and `unless`. Assumes nothing.
+use borrow.Author.Rules.{rules}
+use Rattle.entries.specs.Tests.{first_fault}
+use Rattle.entries.proofs.then_test.Goals as goal
+
+pub enum_known-fault : goal.enum_known-fault
+enum_known-fault c = search rules
+
+pub enum_told-1 : goal.enum_told-1
+enum_told-1 c = search rules
+
+pub returns-in-At : goal.returns-in-At
+returns-in-At c = rw c.fault-1.given.1
+
+pub returns-then-holds : goal.returns-then-holds
+unfolding first_fault
+returns-then-holds c = rw (c.enum_told-1.given.1, c.if-holds.true)
+
+pub returns-else-holds : goal.returns-else-holds
+unfolding first_fault
+returns-else-holds c = rw (c.enum_told-1.given.1, c.if-holds.false)
