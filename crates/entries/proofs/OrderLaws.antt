@@ -83,7 +83,7 @@ pub data Chain (g : Fault) : Fault → List Test → Type 0 where
   tested : {f h : Fault} {b : Bool} {t : Test} {ts : List Test}
       → h ≡ or_then f (first_fault (test b t.place ∷ [])) → b ≡ t.holds → Chain g h ts → Chain g f (t ∷ ts)
 
-chain_first : {f g : Fault} {ts : List Test} → Chain g f ts → g ≡ or_then f (first_fault ts)
+chain_first : {g f : Fault} {ts : List Test} → Chain g f ts → g ≡ or_then f (first_fault ts)
 unfolding first_fault
 chain_first ended = rw then_nowhere
 chain_first (tested {b = b} {t = t} made holds rest) =

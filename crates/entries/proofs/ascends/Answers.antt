@@ -27,20 +27,3 @@ pub returns : goal.returns
 returns c =
     c.precedes.ensures
     ∙ ascends_later c.args.wide c.args.file.now c.args.first c.args.at c.requires.0 c.if-at-first.false
-
--- LEFT
--- -- NONEED slice-bounds-precedes-start
--- part-precedes-start : tie.Need-slice-bounds-precedes-start
--- part-precedes-start c = search rules
-
--- -- NONEED slice-bounds-precedes-end
--- part-precedes-end : tie.Need-slice-bounds-precedes-end
--- part-precedes-end c = search rules
-
--- -- NONEED slice-bounds-precedes-start2
--- part-precedes-start-2 : tie.Need-slice-bounds-precedes-start-2
--- part-precedes-start-2 c = search rules
-
--- -- NONEED slice-bounds-precedes-end2
--- part-precedes-end-2 : tie.Need-slice-bounds-precedes-end-2
--- part-precedes-end-2 c = search rules

@@ -26,7 +26,7 @@ enum_known-f c = search rules
 pub returns-in-At : goal.returns-in-At
 returns-in-At c =
     body-fault c.args.body c.args.s c.args.file.now c.args.first c.loop-k.at c.loop-k.k c.args.count
-    (omega arith) c.entry_fault-f.ensures c.f-1.given.1
+    (omega arith) c.entry_fault-f.ensures c.in-At.is
     ∙ sym c.loop-k.invariant.3
 
 pub enum_told-1 : goal.enum_told-1
@@ -51,7 +51,7 @@ loop-k-preserved c =
     let room = room_next _ _ _ _ _ c.loop-k.invariant.2 (omega arith) in
     let rest =
     body_further c.args.body c.args.s c.args.file.now c.args.first c.loop-k.at c.loop-k.k c.args.count
-    (omega arith) c.entry_fault-f.ensures c.enum_told-1.given.1 c.width-at.ensures in
+    (omega arith) c.entry_fault-f.ensures c.in_default.is c.width-at.ensures in
     (omega arith, omega arith, rw c.width-at.ensures room, c.loop-k.invariant.3 ∙ rest)
 
 pub returns : goal.returns

@@ -1,7 +1,5 @@
 -- The fields' fault stays; without one the ascent is tested, at the body's width. Assumes nothing.
-use mathlib.Core.List.{List}
 use borrow.Author.Rules.{rules}
-use Rattle.entries.specs.Tests.{Test}
 use Rattle.entries.specs.Entries.{field_tests, entry_tests}
 use Rattle.entries.proofs.OrderLaws.{first_stays, first_passes}
 use Rattle.entries.proofs.entry_fault.Goals as goal
@@ -14,7 +12,7 @@ enum_known-f c = search rules
 
 pub returns-in-At : goal.returns-in-At
 unfolding entry_tests
-returns-in-At c = first_stays (fields_at c) _ c.field_fault-f.ensures c.f-1.given.1
+returns-in-At c = first_stays (field_tests c.args.body c.args.s.names c.args.s.nonterminals c.args.s.states c.args.file.now c.args.at) _ c.field_fault-f.ensures c.in-At.is
 
 pub enum_told-1 : goal.enum_told-1
 enum_told-1 c = search rules
@@ -31,10 +29,5 @@ then_test-requires c = search rules
 pub returns : goal.returns
 unfolding entry_tests
 returns c =
-    first_passes (fields_at c) _ c.field_fault-f.ensures c.enum_told-1.given.1
+    first_passes (field_tests c.args.body c.args.s.names c.args.s.nonterminals c.args.s.states c.args.file.now c.args.at) _ c.field_fault-f.ensures c.in_default.is
     (rw (← c.width.ensures, ← c.ascends.ensures) c.then_test.ensures)
-
--- LEFT
--- abbrev fields_at : tie.Start → List Test
--- fields_at s =
---     field_tests s.args.body s.args.s.names s.args.s.nonterminals s.args.s.states s.args.file.now s.args.at

@@ -10,14 +10,14 @@ enum_known-body c = search rules
 
 pub rule_fault-requires : goal.rule_fault-requires
 unfolding width
-rule_fault-requires c = rw c.body-1.given.1 at c.requires
+rule_fault-requires c = rw c.in-Templates.is at c.requires
 
 pub enum_told-1 : goal.enum_told-1
 enum_told-1 c = search rules
 
 pub schema_fault-requires : goal.schema_fault-requires
 unfolding width
-schema_fault-requires c = rw c.enum_told-1.given.1 at c.requires
+schema_fault-requires c = rw c.in-Schema.is at c.requires
 
 pub enum_told-in-Endings : goal.enum_told-in-Endings
 enum_told-in-Endings c = search rules
@@ -25,18 +25,18 @@ enum_told-in-Endings c = search rules
 pub bounds-file-at : goal.bounds-file-at
 unfolding width
 bounds-file-at c =
-    let room = rw c.enum_told-in-Endings-1.given.1 at c.requires in
+    let room = rw c.in-Endings.is at c.requires in
     omega (arith, room)
 
 pub then_test-requires : goal.then_test-requires
 then_test-requires c = search rules
 
 pub returns-in-Templates : goal.returns-in-Templates
-returns-in-Templates c = rw c.body-1.given.1 c.rule_fault.ensures
+returns-in-Templates c = rw c.in-Templates.is c.rule_fault.ensures
 
 pub returns-in-Schema : goal.returns-in-Schema
-returns-in-Schema c = rw c.enum_told-1.given.1 c.schema_fault.ensures
+returns-in-Schema c = rw c.in-Schema.is c.schema_fault.ensures
 
 pub returns-in-Endings : goal.returns-in-Endings
 unfolding field_tests
-returns-in-Endings c = rw c.enum_told-in-Endings-1.given.1 c.then_test.ensures
+returns-in-Endings c = rw c.in-Endings.is c.then_test.ensures

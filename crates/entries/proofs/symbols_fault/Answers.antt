@@ -4,7 +4,6 @@ use mathlib.Core.Path.{◌≡◌, refl, ◌∙◌, sym}
 use Prim.Native.Nat.{◌-◌, ◌≤◌}
 use native.Mathlib.Omega.{arith}
 use borrow.Author.Rules.{rules}
-use borrow.Author.Tests.{not-true, not-false}
 use Rattle.entries.specs.Tests.{first_fault}
 use Rattle.entries.specs.Entries.{symbol_tests}
 use Rattle.entries.proofs.RuleLaws.{symbols_end, symbols-fault, symbols_further}
@@ -39,7 +38,7 @@ symbol_holds-holds-requires c = search rules
 pub returns-then-not-holds : goal.returns-then-not-holds
 returns-then-not-holds c =
     symbols-fault c.args.s.names c.args.s.nonterminals c.args.file.now c.args.at c.args.symbols c.loop-j.j
-    (omega arith) c.wide-used.ensures.0 c.symbol_holds-holds.ensures (not-true _ c.if-not-holds.true)
+    (omega arith) c.wide-used.ensures.0 c.symbol_holds-holds.ensures c.if-not-holds.true
     ∙ sym c.loop-j.invariant.1
 
 pub overflow_add-j : goal.overflow_add-j
@@ -52,15 +51,10 @@ pub loop-j-preserved : goal.loop-j-preserved
 loop-j-preserved c =
     let rest =
     symbols_further c.args.s.names c.args.s.nonterminals c.args.file.now c.args.at c.args.symbols c.loop-j.j
-    (omega arith) c.wide-used.ensures.0 c.symbol_holds-holds.ensures (not-false _ c.if-not-holds.false) in
+    (omega arith) c.wide-used.ensures.0 c.symbol_holds-holds.ensures c.if-not-holds.false in
     (omega arith, c.loop-j.invariant.1 ∙ rest)
 
 pub returns : goal.returns
 returns c =
     symbols_end c.args.s.names c.args.s.nonterminals c.args.file.now c.args.at c.args.symbols c.loop-j.j (omega arith)
     ∙ sym c.loop-j.invariant.1
-
--- LEFT
--- -- NONEED shared-slice-read-symbol-init
--- shared-slice-read-symbol-holds : tie.Need-shared-slice-read-symbol-init invariant-loop decreases-loop
--- shared-slice-read-symbol-holds c = search rules

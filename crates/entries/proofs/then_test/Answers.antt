@@ -10,12 +10,12 @@ pub enum_told-1 : goal.enum_told-1
 enum_told-1 c = search rules
 
 pub returns-in-At : goal.returns-in-At
-returns-in-At c = rw c.fault-1.given.1
+returns-in-At c = rw c.in-At.is
 
 pub returns-then-holds : goal.returns-then-holds
 unfolding first_fault
-returns-then-holds c = rw (c.enum_told-1.given.1, c.if-holds.true)
+returns-then-holds c = rw (c.in-Nowhere.is, c.if-holds.true)
 
 pub returns-else-holds : goal.returns-else-holds
 unfolding first_fault
-returns-else-holds c = rw (c.enum_told-1.given.1, c.if-holds.false)
+returns-else-holds c = rw (c.in-Nowhere.is, c.if-holds.false)

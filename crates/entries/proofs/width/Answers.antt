@@ -20,12 +20,12 @@ enum_told-in-Endings c = search rules
 
 pub returns-in-Templates : goal.returns-in-Templates
 unfolding width
-returns-in-Templates c = rw (c.body-1.given.1, c.wide.ensures.0)
+returns-in-Templates c = rw (c.in-Templates.is, c.wide.ensures.0)
 
 pub returns-in-Schema : goal.returns-in-Schema
 unfolding width
-returns-in-Schema c = rw c.enum_told-1.given.1
+returns-in-Schema c = rw c.in-Schema.is
 
 pub returns-in-Endings : goal.returns-in-Endings
 unfolding width
-returns-in-Endings c = rw c.enum_told-in-Endings-1.given.1
+returns-in-Endings c = rw c.in-Endings.is
