@@ -11,7 +11,8 @@ mod print;
 mod splits;
 mod summaries;
 
-use libc::STDIN_FILENO;
+use std::io;
+use std::io::Read;
 
 // Where the next case stands, and the file that it stands under.
 #[derive(Clone, Copy)]
@@ -22,17 +23,17 @@ struct Cursor {
 }
 
 // A case by its letter.
-fn run(letter: u8, file: &[u8], bytes: &[u8]) {
+fn run(rt: &impl Print, letter: u8, file: &[u8], bytes: &[u8]) -> io::Result<()> {
     match letter {
-        b'F' => files::show_file(bytes),
-        b'P' => summaries::show_page(file, bytes),
-        b'G' => summaries::show_fragment(file, bytes),
-        b'J' => summaries::join_fragments(file, bytes),
-        b'S' => summaries::join_structs(file, bytes),
-        b'N' => summaries::show_depth(file, bytes),
-        b'C' => checks::check_file(file, bytes),
-        b'L' => splits::split_file(bytes),
-        _ => (),
+        b'F' => files::show_file(rt, bytes),
+        b'P' => summaries::show_page(rt, file, bytes),
+        b'G' => summaries::show_fragment(rt, file, bytes),
+        b'J' => summaries::join_fragments(rt, file, bytes),
+        b'S' => summaries::join_structs(rt, file, bytes),
+        b'N' => summaries::show_depth(rt, file, bytes),
+        b'C' => checks::check_file(rt, file, bytes),
+        b'L' => splits::split_file(rt, bytes),
+        _ => Ok(()),
     }
 }
 
@@ -47,7 +48,7 @@ fn behind(letter: u8, c: Cursor, from: usize, to: usize) -> Cursor {
 }
 
 // The case at a place: answers where the next one starts, or the input's end, and its file.
-fn one(input: &[u8], c: Cursor) -> Cursor {
+fn one(rt: &impl Print, input: &[u8], c: Cursor) -> io::Result<Cursor> {
     let n = input.len();
     let at = c.at;
     let end = Cursor {
@@ -56,46 +57,45 @@ fn one(input: &[u8], c: Cursor) -> Cursor {
         to: 0,
     };
     if n < 3 {
-        return end;
+        return Ok(end);
     }
     if n - 3 < at {
-        return end;
+        return Ok(end);
     }
     let letter = input[at];
     let len = numbers::wide(input[at + 1]) + 256 * numbers::wide(input[at + 2]);
     let from = at + 3;
     if n - from < len {
-        return end;
+        return Ok(end);
     }
     let to = from + len;
     let file_from = c.from;
     let file_to = c.to;
     if file_to <= n {
         if file_from <= file_to {
-            run(letter, &input[file_from..file_to], &input[from..to]);
+            run(rt, letter, &input[file_from..file_to], &input[from..to])?;
         }
     }
-    behind(letter, c, from, to)
+    Ok(behind(letter, c, from, to))
 }
 
-fn all(input: &[u8]) {
+fn all(rt: &impl Print, input: &[u8]) -> io::Result<()> {
     let mut c = Cursor {
         at: 0,
         from: 0,
         to: 0,
     };
-    let mut turns: u32 = 0;
-    while turns < 10000 {
+    for _ in 0..10000 {
         if input.len() <= c.at {
-            return;
+            return Ok(());
         }
-        c = one(input, c);
-        turns += 1;
+        c = one(rt, input, c)?;
     }
+    Ok(())
 }
 
-fn main() {
-    let mut buffer = io::large_buffer();
-    let n = io::read_full(STDIN_FILENO, &mut buffer);
-    all(&buffer[..n]);
+fn main(rt: HostRuntime) -> io::Result<()> {
+    let mut input = Vec::new(rt.alloc());
+    rt.stdin().read_to_end(&mut input)?;
+    all(&rt, &input)
 }

@@ -1,7 +1,7 @@
 // Numbers and answers, as a case's line on standard output has them.
 ghost use Rattle.std.specs.Prelude.{◌≡◌, ◌<◌};
 
-use libc::STDOUT_FILENO;
+use std::io;
 
 // A byte as such a number.
 pub fn entry(x: u8) -> u64
@@ -11,17 +11,15 @@ pub fn entry(x: u8) -> u64
 }
 
 // A number with more behind it, and the last one.
-pub fn word(x: u64) {
-    io::print_decimal(STDOUT_FILENO, x);
-    io::write_all(STDOUT_FILENO, b" ");
+pub fn word(rt: &impl Print, x: u64) -> io::Result<()> {
+    print!(rt; "{x} ")
 }
 
-pub fn last_word(x: u64) {
-    io::print_decimal(STDOUT_FILENO, x);
-    io::write_all(STDOUT_FILENO, b"\n");
+pub fn last_word(rt: &impl Print, x: u64) -> io::Result<()> {
+    println!(rt; "{x}")
 }
 
-pub fn answer(a: u32, number: u64) {
-    word(a as u64);
-    word(number);
+pub fn answer(rt: &impl Print, a: u32, number: u64) -> io::Result<()> {
+    word(rt, a as u64)?;
+    word(rt, number)
 }

@@ -3,7 +3,7 @@ ghost use Rattle.std.specs.Prelude.{◌+◌, ◌≤◌, length};
 ghost use Rattle.pieces.specs.Pieces.{most_tags};
 
 use crate::print::{answer, entry, last_word, word};
-use libc::STDOUT_FILENO;
+use std::io;
 
 // Where the parts of a struct in a case's bytes begin: ends, starts, 16 names, 17 relations of eight bytes, 17 counts of outermost elements of
 // one; and its bytes in all, 171.
@@ -15,78 +15,73 @@ const COUNTS: usize = RELATIONS + 8 * (pieces::TAGS + 1);
 
 const STRUCT: usize = COUNTS + pieces::TAGS + 1;
 
-pub fn show_page(file: &[u8], bytes: &[u8]) {
+pub fn show_page(rt: &impl Print, file: &[u8], bytes: &[u8]) -> io::Result<()> {
     let r = page::read(file, bytes);
-    answer(page::answer(r), page::number(r));
-    io::write_all(STDOUT_FILENO, b"\n");
+    answer(rt, page::answer(r), page::number(r))?;
+    println!(rt)
 }
 
 // The ends, the starts, the names, the relations and the counts of outermost elements, all of them.
-fn show_summary(s: form::Summary) {
+fn show_summary(rt: &impl Print, s: form::Summary) -> io::Result<()> {
     let c = s.counts;
-    word(c.ends as u64);
-    word(c.starts as u64);
+    word(rt, c.ends as u64)?;
+    word(rt, c.starts as u64)?;
     let names = s.names;
     let values = s.values;
-    let mut k = 0;
-    while k < pieces::TAGS {
-        word(entry(names[k]));
-        k += 1;
+    for name in &names {
+        word(rt, entry(*name))?;
     }
-    show_relations(&values);
-    show_outermost(&values);
+    show_relations(rt, &values)?;
+    show_outermost(rt, &values)
 }
 
-fn show_relations(values: &[u64; pieces::PIECES]) {
-    let mut k = 0;
-    while k <= pieces::TAGS {
+fn show_relations(rt: &impl Print, values: &[u64; pieces::PIECES]) -> io::Result<()> {
+    for k in 0..=pieces::TAGS {
         let p = pieces::piece_at(values, k);
-        word(p.relation);
-        k += 1;
+        word(rt, p.relation)?;
     }
+    Ok(())
 }
 
-fn show_outermost(values: &[u64; pieces::PIECES]) {
-    let mut k = 0;
-    while k < pieces::TAGS {
+fn show_outermost(rt: &impl Print, values: &[u64; pieces::PIECES]) -> io::Result<()> {
+    for k in 0..pieces::TAGS {
         let p = pieces::piece_at(values, k);
-        word(p.outermost);
-        k += 1;
+        word(rt, p.outermost)?;
     }
     let last = pieces::piece_at(values, pieces::TAGS);
-    last_word(last.outermost);
+    last_word(rt, last.outermost)
 }
 
-pub fn show_fragment(file: &[u8], bytes: &[u8]) {
+pub fn show_fragment(rt: &impl Print, file: &[u8], bytes: &[u8]) -> io::Result<()> {
     let r = summary::fragment(file, bytes);
     let a = r.answer;
-    answer(summary::fragment_answer(a), summary::fragment_number(a));
+    answer(rt, summary::fragment_answer(a), summary::fragment_number(a))?;
     let s = r.summary;
-    show_summary(s);
+    show_summary(rt, s)
 }
 
-fn show_join(r: summary::JoinReply) {
+fn show_join(rt: &impl Print, r: summary::JoinReply) -> io::Result<()> {
     let a = r.answer;
-    answer(summary::join_answer(a), summary::join_number(a));
+    answer(rt, summary::join_answer(a), summary::join_number(a))?;
     let s = r.summary;
-    show_summary(s);
+    show_summary(rt, s)
 }
 
 // Joins the summaries of two runs of bytes, the first as long as the first byte says.
-pub fn join_fragments(file: &[u8], bytes: &[u8]) {
+pub fn join_fragments(rt: &impl Print, file: &[u8], bytes: &[u8]) -> io::Result<()> {
     if bytes.len() < 1 {
-        return;
+        return Ok(());
     }
     let cut = 1 + numbers::wide(bytes[0]);
     if bytes.len() < cut {
-        return;
+        return Ok(());
     }
     let left = summary::fragment(file, &bytes[1..cut]);
     let right = summary::fragment(file, &bytes[cut..]);
     let l = left.summary;
     let r = right.summary;
     let j = summary::join(file, l, r);
-    show_join(j);
+    show_join(rt, j)
 }
 
 // The number of eight bytes at a place, the first lowest.
@@ -94,9 +89,7 @@ fn relation_at(bytes: &[u8], at: usize) -> u64
     requires { at + 8 ≤ length bytes.now }
 {
     let mut r = 0u64;
-    let mut k = 8;
-    while 0 < k {
-        k -= 1;
+    for k in (0..8).rev() {
         r = (r << 8) | entry(bytes[at + k]);
     }
     r
@@ -107,10 +100,8 @@ fn names_at(bytes: &[u8], at: usize) -> [u8; pieces::TAGS]
     requires { at + 171 ≤ length bytes.now }
 {
     let mut names = [0u8; pieces::TAGS];
-    let mut k = 0;
-    while k < pieces::TAGS {
+    for k in 0..pieces::TAGS {
         names[k] = bytes[at + NAMES + k];
-        k += 1;
     }
     names
 }
@@ -131,10 +122,8 @@ fn values_at(bytes: &[u8], at: usize) -> [u64; pieces::PIECES]
     requires { at + 171 ≤ length bytes.now }
 {
     let mut values = [0u64; pieces::PIECES];
-    let mut k = 0;
-    while k <= pieces::TAGS {
+    for k in 0..=pieces::TAGS {
         pieces::put_piece(&mut values, k, piece_in(bytes, at, k));
-        k += 1;
     }
     values
 }
@@ -150,43 +139,26 @@ fn summary_at(bytes: &[u8], at: usize) -> form::Summary
     }
 }
 
-pub fn join_structs(file: &[u8], bytes: &[u8]) {
+pub fn join_structs(rt: &impl Print, file: &[u8], bytes: &[u8]) -> io::Result<()> {
     if bytes.len() < 2 * STRUCT {
-        return;
+        return Ok(());
     }
     let left = summary_at(bytes, 0);
     let right = summary_at(bytes, STRUCT);
     let j = summary::join(file, left, right);
-    show_join(j);
+    show_join(rt, j)
 }
 
-// The net depths that cases have, spelled out.
-fn show_net(z: i32) {
-    if z == -16 {
-        io::write_all(STDOUT_FILENO, b"-16\n");
-        return;
-    }
-    if z == -1 {
-        io::write_all(STDOUT_FILENO, b"-1\n");
-        return;
-    }
-    if z == 0 {
-        io::write_all(STDOUT_FILENO, b"0\n");
-        return;
-    }
-    if z == 16 {
-        io::write_all(STDOUT_FILENO, b"16\n");
-        return;
-    }
-    io::write_all(STDOUT_FILENO, b"another\n");
+fn show_net(rt: &impl Print, z: i32) -> io::Result<()> {
+    println!(rt; "{z}")
 }
 
-pub fn show_depth(file: &[u8], bytes: &[u8]) {
+pub fn show_depth(rt: &impl Print, file: &[u8], bytes: &[u8]) -> io::Result<()> {
     if bytes.len() < STRUCT {
-        return;
+        return Ok(());
     }
     let s = summary_at(bytes, 0);
     let d = summary::net_depth(file, s);
-    answer(summary::depth_answer(d), summary::depth_number(d));
-    show_net(summary::depth_of(d));
+    answer(rt, summary::depth_answer(d), summary::depth_number(d))?;
+    show_net(rt, summary::depth_of(d))
 }

@@ -6,7 +6,8 @@ ghost use Rattle.std.specs.Prelude.{◌≡◌, length};
 ghost use Rattle.line.specs.Lines.{room};
 ghost use Rattle.setcheck.specs.Inputs.{GivenWithin, ReadWithin};
 
-use libc::{STDERR_FILENO, STDIN_FILENO, STDOUT_FILENO};
+use std::io;
+use std::io::{ErrorKind, Read};
 
 // What one read gave.
 #[derive(Clone, Copy)]
@@ -25,25 +26,25 @@ enum Input {
 }
 
 // One read, to the start of the buffer.
-fn read_once(buffer: &mut [u8]) -> Given
+fn read_once(reader: &mut impl Read, buffer: &mut [u8]) -> Given
     ensures { GivenWithin result (length buffer.old) }
 {
-    let got = libc::read(STDIN_FILENO, buffer);
-    if got < 0 {
-        if os::errno() == libc::EINTR {
-            return Given::Interrupted;
+    match reader.read(buffer) {
+        Ok(0) => Given::End,
+        Ok(n) => Given::Bytes(n),
+        Err(e) => {
+            if e.kind() == ErrorKind::Interrupted {
+                Given::Interrupted
+            } else {
+                Given::Failed
+            }
         }
-        return Given::Failed;
     }
-    if got == 0 {
-        return Given::End;
-    }
-    Given::Bytes(io::count(got, buffer))
 }
 
 // Reads to the end of the input, or until the buffer is full. Nothing says that interruptions end, and a proved loop has to: so it counts
 // its turns down, from a number that no run uses up.
-fn read_input(buffer: &mut [u8]) -> Input
+fn read_input(reader: &mut impl Read, buffer: &mut [u8]) -> Input
     requires { room ≡ length buffer.old }
     ensures { ReadWithin result (length buffer.old) }
 {
@@ -54,7 +55,7 @@ fn read_input(buffer: &mut [u8]) -> Input
             return Input::Unread;
         }
         turns -= 1;
-        let given = read_once(&mut buffer[at..]);
+        let given = read_once(reader, &mut buffer[at..]);
         match given {
             Given::Bytes(n) => {
                 at += n;
@@ -71,28 +72,23 @@ fn read_input(buffer: &mut [u8]) -> Input
     Input::Whole(at)
 }
 
-// Prints the file's line. False where it was not written in full.
-fn print_line(file: &[u8]) -> bool {
+// Prints the file's line.
+fn print_line(rt: &impl Print, file: &[u8]) -> io::Result<()> {
     let mut table = [0u64; worktable::TABLE];
     let line = line::checked(file, &mut table);
     let bytes = line.bytes;
     let n = line.len;
-    io::write_all(STDOUT_FILENO, &bytes[..n])
+    rt.write_all(&bytes[..n])
 }
 
-fn complain(sentence: &[u8]) {
-    io::write_all(STDERR_FILENO, sentence);
-}
-
-fn main() {
+fn main(rt: HostRuntime) {
     let mut buffer = [0u8; line::ROOM];
-    let input = read_input(&mut buffer);
+    let input = read_input(&mut rt.stdin(), &mut buffer);
     let Input::Whole(n) = input else {
-        complain(b"setcheck: standard input could not be read\n");
+        let _ = eprintln!(rt; "setcheck: standard input could not be read");
         return;
     };
-    let printed = print_line(&buffer[..n]);
-    if !printed {
-        complain(b"setcheck: the line could not be written\n");
+    if print_line(&rt, &buffer[..n]).is_err() {
+        let _ = eprintln!(rt; "setcheck: the line could not be written");
     }
 }
