@@ -20,7 +20,7 @@ pub overflow_add-out : goal.overflow_add-out
 overflow_add-out c = search rules
 
 pub bounds-out-at-2 : goal.bounds-out-at-2
-bounds-out-at-2 c = lt-length-set c.args.out.now c.args.at (c.args.n % 256) (omega (arith, c.requires.0))
+bounds-out-at-2 c = lt-length-set c.args.out.now c.args.at (c.args.n % 256) (omega (arith, c.requires.at_in_bounds))
 
 pub shape_of-out : goal.shape_of-out
 shape_of-out c = search rules
