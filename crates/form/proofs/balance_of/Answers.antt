@@ -3,9 +3,6 @@ use borrow.Author.Rules.{rules}
 use Rattle.form.proofs.EndingLaws.{ending_laws}
 use Rattle.form.proofs.balance_of.Goals as goal
 
-pub overflow_add-c : goal.overflow_add-c
-overflow_add-c c = search rules
-
 pub returns-then-c-gt0 : goal.returns-then-c-gt0
 returns-then-c-gt0 c = search ending_laws
 

@@ -4,20 +4,8 @@ use borrow.Author.Rules.{rules}
 use Rattle.form.proofs.EndingLaws.{ending_laws}
 use Rattle.form.proofs.ending_of.Goals as goal
 
-pub balance_of-b-requires : goal.balance_of-b-requires
-balance_of-b-requires c = search rules
-
-pub enum_known-b : goal.enum_known-b
-enum_known-b c = search rules
-
-pub enum_told-1 : goal.enum_told-1
-enum_told-1 c = search rules
-
 pub returns-in_default : goal.returns-in_default
 returns-in_default c = search ending_laws
-
-pub accepts-requires : goal.accepts-requires
-accepts-requires c = search rules
 
 pub returns-then-accepts : goal.returns-then-accepts
 returns-then-accepts c = search ending_laws

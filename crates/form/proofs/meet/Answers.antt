@@ -5,38 +5,8 @@ use borrow.Author.Rules.{rules}
 use Rattle.form.proofs.TagLaws.{tag_laws}
 use Rattle.form.proofs.meet.Goals as goal
 
-pub overflow_add-n : goal.overflow_add-n
-overflow_add-n c = search rules
-
-pub overflow_sub-open : goal.overflow_sub-open
-overflow_sub-open c = search rules
-
-pub bounds-names-n : goal.bounds-names-n
-bounds-names-n c = search rules
-
 pub returns-then-open-name : goal.returns-then-open-name
 returns-then-open-name c = search tag_laws
-
-pub overflow_sub-n : goal.overflow_sub-n
-overflow_sub-n c = search rules
-
-pub piece_at-requires : goal.piece_at-requires
-piece_at-requires c = search rules
-
-pub piece_at-requires-2 : goal.piece_at-requires-2
-piece_at-requires-2 c = search rules
-
-pub closed-value-requires : goal.closed-value-requires
-closed-value-requires c = search rules
-
-pub take_tag-requires : goal.take_tag-requires
-take_tag-requires c = search rules
-
-pub overflow_sub-c : goal.overflow_sub-c
-overflow_sub-c c = search rules
-
-pub counted-requires : goal.counted-requires
-counted-requires c = search rules
 
 pub returns : goal.returns
 returns c = search tag_laws

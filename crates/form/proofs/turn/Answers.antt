@@ -10,35 +10,11 @@ cancel-requires c = search turn_laws
 pub returns-then-closes-c : goal.returns-then-closes-c
 returns-then-closes-c c = search turn_laws
 
-pub overflow_add-kept : goal.overflow_add-kept
-overflow_add-kept c = search rules
-
 pub returns-then-kept-ge-TAGS : goal.returns-then-kept-ge-TAGS
 returns-then-kept-ge-TAGS c = search turn_laws
 
-pub empty-requires : goal.empty-requires
-empty-requires c = search rules
-
-pub follow-both-requires : goal.follow-both-requires
-follow-both-requires c = search rules
-
-pub put_tag-requires : goal.put_tag-requires
-put_tag-requires c = search rules
-
-pub overflow_add-c : goal.overflow_add-c
-overflow_add-c c = search rules
-
-pub counted-requires : goal.counted-requires
-counted-requires c = search rules
-
 pub returns-then-closes : goal.returns-then-closes
 returns-then-closes c = search turn_laws
-
-pub overflow_add-c-2 : goal.overflow_add-c-2
-overflow_add-c-2 c = search rules
-
-pub counted-requires-2 : goal.counted-requires-2
-counted-requires-2 c = search rules
 
 pub returns : goal.returns
 returns c = search turn_laws

@@ -12,18 +12,6 @@ use Rattle.save.proofs.put_body.Goals as goal
 pub loop-i-init : goal.loop-i-init
 loop-i-init c = (omega arith, refl, refl)
 
-pub bounds-body-i : goal.bounds-body-i
-bounds-body-i c = search rules
-
-pub bounds-out-i : goal.bounds-out-i
-bounds-out-i c = search rules
-
-pub overflow_add-i : goal.overflow_add-i
-overflow_add-i c = search rules
-
-pub loop-i-smaller : goal.loop-i-smaller
-loop-i-smaller c = search rules
-
 pub loop-i-preserved : goal.loop-i-preserved
 loop-i-preserved c =
     let t = c.args.out.now in
@@ -34,9 +22,6 @@ loop-i-preserved c =
       ap (λ (x : List ℕ). set x i (get_or r i 0)) c.loop-i.invariant.2
           ∙ copied_more t r i (omega arith) (omega arith),
     )
-
-pub shape_of-out : goal.shape_of-out
-shape_of-out c = search rules
 
 pub returns : goal.returns
 returns c =

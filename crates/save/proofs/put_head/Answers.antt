@@ -4,45 +4,6 @@ use borrow.Author.Rules.{rules}
 use Rattle.save.proofs.LayLaws.{head_laid}
 use Rattle.save.proofs.put_head.Goals as goal
 
-pub put_numbers-requires : goal.put_numbers-requires
-put_numbers-requires c = search rules
-
-pub put_half-requires : goal.put_half-requires
-put_half-requires c = search rules
-
-pub wide_half-requires : goal.wide_half-requires
-wide_half-requires c = search rules
-
-pub put_half-requires-2 : goal.put_half-requires-2
-put_half-requires-2 c = search rules
-
-pub second_body-requires : goal.second_body-requires
-second_body-requires c = search rules
-
-pub put_half-requires-3 : goal.put_half-requires-3
-put_half-requires-3 c = search rules
-
-pub wide_half-requires-2 : goal.wide_half-requires-2
-wide_half-requires-2 c = search rules
-
-pub put_half-requires-4 : goal.put_half-requires-4
-put_half-requires-4 c = search rules
-
-pub third_body-requires : goal.third_body-requires
-third_body-requires c = search rules
-
-pub put_half-requires-5 : goal.put_half-requires-5
-put_half-requires-5 c = search rules
-
-pub wide_half-requires-3 : goal.wide_half-requires-3
-wide_half-requires-3 c = search rules
-
-pub put_half-requires-6 : goal.put_half-requires-6
-put_half-requires-6 c = search rules
-
-pub shape_of-out : goal.shape_of-out
-shape_of-out c = search rules
-
 pub returns : goal.returns
 returns c =
     head_laid c.args.shape.names c.args.shape.nonterminals c.args.shape.states c.args.shape.templates

@@ -7,9 +7,6 @@ use lib.Seq.{lt-length-sets}
 use borrow.Author.Rules.{rules}
 use Rattle.save.proofs.put_numbers.Goals as goal
 
-pub bounds-out-0 : goal.bounds-out-0
-bounds-out-0 c = search rules
-
 pub bounds-out-1 : goal.bounds-out-1
 bounds-out-1 c =
     let l : 1 < length c.args.out.now = omega (arith, c.requires) in
@@ -19,12 +16,3 @@ pub bounds-out-2 : goal.bounds-out-2
 bounds-out-2 c =
     let l : 2 < length c.args.out.now = omega (arith, c.requires) in
     lt-length-sets c.args.out.now 0 (c.args.shape.names ∷ c.args.shape.nonterminals ∷ []) l
-
-pub bounds-out-3 : goal.bounds-out-3
-bounds-out-3 c = search rules
-
-pub shape_of-out : goal.shape_of-out
-shape_of-out c = search rules
-
-pub returns : goal.returns
-returns c = search rules

@@ -34,41 +34,17 @@ second_start symbols file at e d = at ∙ ap (λ n. first_body + rule_width symb
 
 -- the answers
 
-pub wide_half-templates-requires : goal.wide_half-templates-requires
-wide_half-templates-requires c = search rules
-
-pub wide_half-schema-requires : goal.wide_half-schema-requires
-wide_half-schema-requires c = search rules
-
-pub schema_start_of-second-requires : goal.schema_start_of-second-requires
-schema_start_of-second-requires c = search rules
-
-pub overflow_mul-third : goal.overflow_mul-third
-overflow_mul-third c = search rules
-
-pub overflow_add-third : goal.overflow_add-third
-overflow_add-third c = search rules
-
 pub body_fault-f-requires : goal.body_fault-f-requires
 unfolding width
 body_fault-f-requires c = (omega arith, omega (arith, second_start c.args.symbols c.args.file.now c.schema_start_of-second.ensures.0 c.wide_half-templates.ensures.0 c.requires.s_value, c.requires))
-
-pub enum_known-f : goal.enum_known-f
-enum_known-f c = search rules
 
 pub returns-in-At : goal.returns-in-At
 unfolding bodies
 returns-in-At c = first_stays (template_tests _ c.args.file.now) _ (body_of (Templates c.args.symbols) c.args.file.now c.body_fault-f.ensures c.requires.s_value refl (templates_are c.args.file.now c.wide_half-templates.ensures.0 c.requires.s_value)) c.in-At.is
 
-pub enum_told-1 : goal.enum_told-1
-enum_told-1 c = search rules
-
 pub body_fault-g-requires : goal.body_fault-g-requires
 unfolding width
 body_fault-g-requires c = (omega arith, omega (arith, second_start c.args.symbols c.args.file.now c.schema_start_of-second.ensures.0 c.wide_half-templates.ensures.0 c.requires.s_value, schema_are c.args.file.now c.wide_half-schema.ensures.0 c.requires.s_value, c.requires))
-
-pub enum_known-g : goal.enum_known-g
-enum_known-g c = search rules
 
 pub returns-in-At-g : goal.returns-in-At-g
 unfolding bodies
@@ -76,12 +52,6 @@ returns-in-At-g c =
     let file = c.args.file.now in
     first_passes (template_tests _ file) _ (body_of (Templates c.args.symbols) c.args.file.now c.body_fault-f.ensures c.requires.s_value refl (templates_are c.args.file.now c.wide_half-templates.ensures.0 c.requires.s_value)) c.in_default.is
     (first_stays (schema_tests _ file) _ (body_of Schema c.args.file.now c.body_fault-g.ensures c.requires.s_value (second_start c.args.symbols c.args.file.now c.schema_start_of-second.ensures.0 c.wide_half-templates.ensures.0 c.requires.s_value) (schema_are c.args.file.now c.wide_half-schema.ensures.0 c.requires.s_value)) c.in-At-g.is)
-
-pub enum_told-in_default-g : goal.enum_told-in_default-g
-enum_told-in_default-g c = search rules
-
-pub wide_half-requires : goal.wide_half-requires
-wide_half-requires c = search rules
 
 pub body_fault-requires : goal.body_fault-requires
 unfolding width

@@ -19,48 +19,6 @@ pub returns-then-file-lt-FIRST_BODY : goal.returns-then-file-lt-FIRST_BODY
 unfolding head_tests first_fault
 returns-then-file-lt-FIRST_BODY c = rw (lt-leb _ _ c.if-file-lt-FIRST_BODY.true)
 
-pub bounds-file-0 : goal.bounds-file-0
-bounds-file-0 c = search rules
-
-pub wide-requires : goal.wide-requires
-wide-requires c = search rules
-
-pub is_between-requires : goal.is_between-requires
-is_between-requires c = search rules
-
-pub then_test-f-requires : goal.then_test-f-requires
-then_test-f-requires c = search rules
-
-pub bounds-file-1 : goal.bounds-file-1
-bounds-file-1 c = search rules
-
-pub wide-requires-2 : goal.wide-requires-2
-wide-requires-2 c = search rules
-
-pub is_between-requires-2 : goal.is_between-requires-2
-is_between-requires-2 c = search rules
-
-pub then_test-f-requires-2 : goal.then_test-f-requires-2
-then_test-f-requires-2 c = search rules
-
-pub bounds-file-2 : goal.bounds-file-2
-bounds-file-2 c = search rules
-
-pub wide-requires-3 : goal.wide-requires-3
-wide-requires-3 c = search rules
-
-pub is_between-requires-3 : goal.is_between-requires-3
-is_between-requires-3 c = search rules
-
-pub then_test-f-requires-3 : goal.then_test-f-requires-3
-then_test-f-requires-3 c = search rules
-
-pub bounds-file-3 : goal.bounds-file-3
-bounds-file-3 c = search rules
-
-pub then_test-requires : goal.then_test-requires
-then_test-requires c = search rules
-
 pub returns : goal.returns
 unfolding head_tests
 returns c =

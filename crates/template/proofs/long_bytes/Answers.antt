@@ -3,15 +3,6 @@ use native.Mathlib.Omega.{arith}
 use borrow.Author.Rules.{rules}
 use Rattle.template.proofs.long_bytes.Goals as goal
 
-pub wide-requires : goal.wide-requires
-wide-requires c = search rules
-
-pub overflow_add-result : goal.overflow_add-result
-overflow_add-result c = search rules
-
-pub wide_half-requires : goal.wide_half-requires
-wide_half-requires c = search rules
-
 pub overflow_mul-result : goal.overflow_mul-result
 overflow_mul-result c = rw c.wide.ensures.0 (search rules)
 

@@ -3,17 +3,8 @@ use borrow.Author.Rules.{rules}
 use Rattle.template.proofs.PartLaws.{part_inside, part_past}
 use Rattle.template.proofs.part.Goals as goal
 
-pub overflow_add-end : goal.overflow_add-end
-overflow_add-end c = search rules
-
-pub slice_bounds-result-count : goal.slice_bounds-result-count
-slice_bounds-result-count c = search rules
-
 pub returns-then-end-file : goal.returns-then-end-file
 returns-then-end-file c = part_inside c.args.file.now c.args.at c.args.len c.if-end-file.true
-
-pub slice_bounds-result-count-2 : goal.slice_bounds-result-count-2
-slice_bounds-result-count-2 c = search rules
 
 pub returns : goal.returns
 returns c = part_past c.args.file.now c.args.at c.args.len c.if-end-file.false

@@ -5,12 +5,6 @@ use Rattle.template.specs.Order.{number}
 use Rattle.template.specs.declared.Reading.{Reading}
 use Rattle.template.proofs.place.Goals as goal
 
-pub enum_known-r : goal.enum_known-r
-enum_known-r c = search rules
-
-pub enum_told-1 : goal.enum_told-1
-enum_told-1 c = search rules
-
 pub returns-in_default : goal.returns-in_default
 returns-in_default c = ap (λ (r : Reading). number r) (sym c.in_default.is)
 

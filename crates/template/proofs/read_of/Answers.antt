@@ -31,33 +31,18 @@ after_contents symbols file head passed contents fits rest =
 
 -- the answers
 
-pub head_fault-head-requires : goal.head_fault-head-requires
-head_fault-head-requires c = search rules
-
-pub enum_known-head : goal.enum_known-head
-enum_known-head c = search rules
-
 pub returns-in-At : goal.returns-in-At
 unfolding tests
 returns-in-At c = answers_bad c.args.symbols c.args.file.now (first_stays (head_tests c.args.file.now) _ c.head_fault-head.ensures c.in-At.is)
 
-pub enum_told-1 : goal.enum_told-1
-enum_told-1 c = search rules
-
 pub contents_fault-contents-requires : goal.contents_fault-contents-requires
 contents_fault-contents-requires c = record { in_bounds = head_length c.args.file.now (sym c.head_fault-head.ensures ∙ c.in_default.is); symbols_le_most_symbols = c.requires }
-
-pub enum_known-contents : goal.enum_known-contents
-enum_known-contents c = search rules
 
 pub returns-in-At-contents : goal.returns-in-At-contents
 unfolding tests
 returns-in-At-contents c =
     answers_bad c.args.symbols c.args.file.now
     (after_head c.args.file.now _ c.head_fault-head.ensures c.in_default.is (first_stays (contents_tests c.args.symbols c.args.file.now) _ c.contents_fault-contents.ensures c.in-At-contents.is))
-
-pub enum_told-in_default-contents : goal.enum_told-in_default-contents
-enum_told-in_default-contents c = search rules
 
 pub shape_of-s-requires : goal.shape_of-s-requires
 shape_of-s-requires c = head_length c.args.file.now (sym c.head_fault-head.ensures ∙ c.in_default.is)
@@ -71,16 +56,10 @@ bodies_fault-rest-requires c =
           omega (arith, contents_length c.args.symbols c.args.file.now (sym c.contents_fault-contents.ensures ∙ c.in_default-contents.is));
     }
 
-pub enum_known-rest : goal.enum_known-rest
-enum_known-rest c = search rules
-
 pub returns-in-At-rest : goal.returns-in-At-rest
 returns-in-At-rest c =
     answers_bad _ c.args.file.now
     (after_contents c.args.symbols c.args.file.now c.head_fault-head.ensures c.in_default.is c.contents_fault-contents.ensures c.in_default-contents.is (sym c.in-At-rest.is ∙ c.bodies_fault-rest.ensures))
-
-pub enum_told-in_default-rest : goal.enum_told-in_default-rest
-enum_told-in_default-rest c = search rules
 
 pub returns : goal.returns
 returns c =

@@ -13,12 +13,6 @@ rules-small symbols rules h k =
     let wide : rule_width symbols * rules ≤ rule_width most_symbols * rules = mul-le-mul_right rules (omega arith) in
     omega arith
 
-pub wide-requires : goal.wide-requires
-wide-requires c = search rules
-
-pub overflow_add-result : goal.overflow_add-result
-overflow_add-result c = search rules
-
 pub overflow_mul-result : goal.overflow_mul-result
 overflow_mul-result c =
     let small = rules-small c.wide.result c.args.rules (omega arith) c.requires.1 in

@@ -2,14 +2,5 @@
 use borrow.Author.Rules.{rules}
 use Rattle.template.proofs.template_rules.Goals as goal
 
-pub wide_half-requires : goal.wide_half-requires
-wide_half-requires c = search rules
-
-pub overflow_mul-wide_half : goal.overflow_mul-wide_half
-overflow_mul-wide_half c = search rules
-
-pub part-requires : goal.part-requires
-part-requires c = search rules
-
 pub returns : goal.returns
 returns c = rw (← c.wide_half.ensures.0) c.part.ensures

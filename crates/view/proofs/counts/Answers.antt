@@ -5,15 +5,6 @@ use Rattle.template.specs.declared.Reading.{Reading}
 use Rattle.view.specs.Views.{counted}
 use Rattle.view.proofs.counts.Goals as goal
 
-pub read-r-requires : goal.read-r-requires
-read-r-requires c = search rules
-
-pub enum_known-r : goal.enum_known-r
-enum_known-r c = search rules
-
-pub enum_told-1 : goal.enum_told-1
-enum_told-1 c = search rules
-
 pub returns-in_default : goal.returns-in_default
 returns-in_default c = ap (λ (r : Reading). counted r) (sym c.in_default.is ∙ c.read-r.ensures)
 
