@@ -8,7 +8,6 @@ use mathlib.Core.List.{List, [], ◌∷◌}
 use Prim.Native.Nat.{ℕ, ◌+◌, ◌≤◌, ◌<◌}
 use native.Mathlib.Omega.{arith}
 use lib.Dec.{ltb}
-use types.Run.{OneOf, hit, miss}
 use denote.Enum.Declared as enum
 use borrow.Author.Tests.{ltb-true, ltb-false}
 use Rattle.words.specs.Tags.{Tag, end}
@@ -49,16 +48,16 @@ kept_holds r names values o c h p = rw p at h.holds
 
 -- as the code tells it: one of the two variants behind `Kept`
 abbrev pub IsRefused : Step → Type 0
-IsRefused r = OneOf (1 ∷ 2 ∷ []) (enum.tag_of the_type r)
+IsRefused r = (c : Counts) → r ≡ Kept c → ⊥
 
 kept_not : (c : Counts) → IsRefused (Kept c) → ⊥
-kept_not c = miss (1 ∷ 2 ∷ []) 0 tt
+kept_not c f = f c refl
 
 pub differs_refused : (a b : ℕ) → IsRefused (Mismatch a b)
-differs_refused a b = hit (1 ∷ 2 ∷ []) 1 tt
+differs_refused a b c e = cc
 
 pub deep_refused : IsRefused TooDeep
-deep_refused = hit (1 ∷ 2 ∷ []) 2 tt
+deep_refused c e = cc
 
 pub refused_says : (r : Step) → IsRefused r → (names values names' values' : List ℕ) (o : Limited Piece) → outcome r names values ≡ o
     → Stepped r names' values' o

@@ -1,5 +1,1 @@
 pub mod ShownLaws
-mod LentWalk
-mod GetterWalk
-mod NumberedWalk
-mod FileWalk

@@ -8,21 +8,6 @@ use Rattle.entries.proofs.ascends.Goals as goal
 pub returns-then-at-first : goal.returns-then-at-first
 returns-then-at-first c = ascends_first c.args.wide c.args.file.now c.args.first c.args.at c.if-at-first.true
 
-pub overflow_sub-before : goal.overflow_sub-before
-overflow_sub-before c = search rules
-
-pub overflow_add-end : goal.overflow_add-end
-overflow_add-end c = search rules
-
-pub slice_bounds-precedes-count : goal.slice_bounds-precedes-count
-slice_bounds-precedes-count c = search rules
-
-pub slice_bounds-precedes-count-2 : goal.slice_bounds-precedes-count-2
-slice_bounds-precedes-count-2 c = search rules
-
-pub precedes-requires : goal.precedes-requires
-precedes-requires c = search rules
-
 pub returns : goal.returns
 returns c =
     c.precedes.ensures

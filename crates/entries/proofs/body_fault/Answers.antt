@@ -20,31 +20,16 @@ entry_fault-f-requires c =
     let room = room_next _ _ _ _ _ c.loop-k.invariant.2 (omega arith) in
     (c.loop-k.invariant.1, omega (arith, room))
 
-pub enum_known-f : goal.enum_known-f
-enum_known-f c = search rules
-
 pub returns-in-At : goal.returns-in-At
 returns-in-At c =
     body-fault c.args.body c.args.s c.args.file.now c.args.first c.loop-k.at c.loop-k.k c.args.count
     (omega arith) c.entry_fault-f.ensures c.in-At.is
     ∙ sym c.loop-k.invariant.3
 
-pub enum_told-1 : goal.enum_told-1
-enum_told-1 c = search rules
-
-pub width-at-requires : goal.width-at-requires
-width-at-requires c = search rules
-
 pub overflow_add-at : goal.overflow_add-at
 overflow_add-at c =
     let room = room_next _ _ _ _ _ c.loop-k.invariant.2 (omega arith) in
     search rules
-
-pub overflow_add-k : goal.overflow_add-k
-overflow_add-k c = search rules
-
-pub loop-k-smaller : goal.loop-k-smaller
-loop-k-smaller c = search rules
 
 pub loop-k-preserved : goal.loop-k-preserved
 loop-k-preserved c =

@@ -5,31 +5,19 @@ use borrow.Author.Rules.{rules}
 use Rattle.entries.specs.Entries.{width, field_tests}
 use Rattle.entries.proofs.field_fault.Goals as goal
 
-pub enum_known-body : goal.enum_known-body
-enum_known-body c = search rules
-
 pub rule_fault-requires : goal.rule_fault-requires
 unfolding width
 rule_fault-requires c = rw c.in-Templates.is at c.requires
 
-pub enum_told-1 : goal.enum_told-1
-enum_told-1 c = search rules
-
 pub schema_fault-requires : goal.schema_fault-requires
 unfolding width
 schema_fault-requires c = rw c.in-Schema.is at c.requires
-
-pub enum_told-in-Endings : goal.enum_told-in-Endings
-enum_told-in-Endings c = search rules
 
 pub bounds-file-at : goal.bounds-file-at
 unfolding width
 bounds-file-at c =
     let room = rw c.in-Endings.is at c.requires in
     omega (arith, room)
-
-pub then_test-requires : goal.then_test-requires
-then_test-requires c = search rules
 
 pub returns-in-Templates : goal.returns-in-Templates
 returns-in-Templates c = rw c.in-Templates.is c.rule_fault.ensures

@@ -7,29 +7,14 @@ use Rattle.entries.proofs.is_symbol.Goals as goal
 pub returns-then-byte-names : goal.returns-then-byte-names
 returns-then-byte-names c = byte_start _ _ _ c.if-byte-names.true
 
-pub wide-b-requires : goal.wide-b-requires
-wide-b-requires c = search rules
-
 pub returns-then-b-lt32 : goal.returns-then-b-lt32
 returns-then-b-lt32 c = byte_below_ends c.args.names c.args.nonterminals c.args.byte (omega arith) (omega arith)
-
-pub wide-requires : goal.wide-requires
-wide-requires c = search rules
-
-pub overflow_add-wide : goal.overflow_add-wide
-overflow_add-wide c = search rules
 
 pub returns-then-b-wide : goal.returns-then-b-wide
 returns-then-b-wide c = byte_end c.args.names c.args.nonterminals c.args.byte (omega arith) (omega arith) (omega arith)
 
 pub returns-then-b-lt64 : goal.returns-then-b-lt64
 returns-then-b-lt64 c = byte_below_nonterminals c.args.names c.args.nonterminals c.args.byte (omega arith) (omega arith)
-
-pub wide-requires-2 : goal.wide-requires-2
-wide-requires-2 c = search rules
-
-pub overflow_add-result : goal.overflow_add-result
-overflow_add-result c = search rules
 
 pub returns : goal.returns
 returns c =

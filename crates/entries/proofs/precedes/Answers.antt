@@ -9,20 +9,11 @@ use Rattle.entries.specs.Entries.{precedes}
 use Rattle.entries.proofs.AscentLaws.{precedes_past_left, precedes_past_right, precedes_less, precedes_more, precedes_same}
 use Rattle.entries.proofs.precedes.Goals as goal
 
-pub loop-i-init : goal.loop-i-init
-loop-i-init c = search rules
-
 pub returns-then-right-i : goal.returns-then-right-i
 returns-then-right-i c =
     let a = c.args.left.now in
     let b = c.args.right.now in
     precedes_past_right a b c.loop-i.i c.if-right-i.true ∙ sym c.loop-i.invariant.1
-
-pub bounds-left-i : goal.bounds-left-i
-bounds-left-i c = search rules
-
-pub bounds-right-i : goal.bounds-right-i
-bounds-right-i c = search rules
 
 pub returns-then-left-i : goal.returns-then-left-i
 returns-then-left-i c =
@@ -30,23 +21,11 @@ returns-then-left-i c =
     let b = c.args.right.now in
     precedes_less a b c.loop-i.i (omega arith) (omega arith) c.if-left-i.true ∙ sym c.loop-i.invariant.1
 
-pub bounds-right-i-in-loop-i : goal.bounds-right-i-in-loop-i
-bounds-right-i-in-loop-i c = search rules
-
-pub bounds-left-i-in-loop-i : goal.bounds-left-i-in-loop-i
-bounds-left-i-in-loop-i c = search rules
-
 pub returns-then-right-i-2 : goal.returns-then-right-i-2
 returns-then-right-i-2 c =
     let a = c.args.left.now in
     let b = c.args.right.now in
     precedes_more a b c.loop-i.i (omega arith) (omega arith) c.if-right-i-2.true ∙ sym c.loop-i.invariant.1
-
-pub overflow_add-i : goal.overflow_add-i
-overflow_add-i c = search rules
-
-pub loop-i-smaller : goal.loop-i-smaller
-loop-i-smaller c = search rules
 
 pub loop-i-preserved : goal.loop-i-preserved
 loop-i-preserved c =

@@ -3,30 +3,15 @@ use borrow.Author.Rules.{rules}
 use Rattle.entries.proofs.RuleLaws.{rule_left, rule_long, rule_rest}
 use Rattle.entries.proofs.rule_fault.Goals as goal
 
-pub bounds-file-at : goal.bounds-file-at
-bounds-file-at c = search rules
-
 pub returns-then-s-file : goal.returns-then-s-file
 returns-then-s-file c =
     rule_left c.args.s.names c.args.s.nonterminals c.args.file.now c.args.at c.args.symbols c.args.s.states
     c.if-s-file.true
 
-pub overflow_add-at : goal.overflow_add-at
-overflow_add-at c = search rules
-
-pub bounds-file-at-2 : goal.bounds-file-at-2
-bounds-file-at-2 c = search rules
-
-pub overflow_add-result : goal.overflow_add-result
-overflow_add-result c = search rules
-
 pub returns-then-symbols-file : goal.returns-then-symbols-file
 returns-then-symbols-file c =
     rule_long c.args.s.names c.args.s.nonterminals c.args.file.now c.args.at c.args.symbols c.args.s.states
     c.if-s-file.false c.if-symbols-file.true
-
-pub symbols_fault-requires : goal.symbols_fault-requires
-symbols_fault-requires c = search rules
 
 pub returns : goal.returns
 returns c =

@@ -2,9 +2,6 @@
 use borrow.Author.Rules.{rules}
 use Rattle.entries.proofs.symbol_holds.Goals as goal
 
-pub is_symbol-requires : goal.is_symbol-requires
-is_symbol-requires c = search rules
-
 pub returns-then-used : goal.returns-then-used
 returns-then-used c = rw c.if-used.true c.is_symbol.ensures
 

@@ -3,12 +3,6 @@ use borrow.Author.Rules.{rules}
 use Rattle.entries.specs.Tests.{first_fault}
 use Rattle.entries.proofs.then_test.Goals as goal
 
-pub enum_known-fault : goal.enum_known-fault
-enum_known-fault c = search rules
-
-pub enum_told-1 : goal.enum_told-1
-enum_told-1 c = search rules
-
 pub returns-in-At : goal.returns-in-At
 returns-in-At c = rw c.in-At.is
 

@@ -1,0 +1,6 @@
+-- Three writes, as the contract has them. Assumes nothing.
+use borrow.Author.Rules.{rules}
+use Rattle.form.proofs.take_tag.Goals as goal
+
+pub returns : goal.returns
+returns c = (cc, cc)

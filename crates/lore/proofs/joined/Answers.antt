@@ -1,0 +1,25 @@
+-- The turn at y joins the entry of inner state y where its row meets the ending states. Assumes nothing.
+use mathlib.Core.Path.{◌≡◌}
+use Prim.Native.Nat.{◌≤◌, ◌-◌}
+use Rattle.hedge.specs.Schema.{most_states}
+use Rattle.lore.specs.Lore.{joined}
+use Rattle.lore.proofs.LoreLaws.{lores}
+use Rattle.lore.proofs.joined.Goals as goal
+
+pub loop-y-init : goal.loop-y-init
+loop-y-init c = search lores
+
+pub join_entry-r-requires : goal.join_entry-r-requires
+join_entry-r-requires c = search lores
+
+pub overflow_add-y : goal.overflow_add-y
+overflow_add-y c = search lores
+
+pub loop-y-smaller : goal.loop-y-smaller
+loop-y-smaller c = search lores
+
+pub loop-y-preserved : goal.loop-y-preserved
+loop-y-preserved c = search lores
+
+pub returns : goal.returns
+returns c = search lores

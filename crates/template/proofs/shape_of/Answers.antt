@@ -1,0 +1,6 @@
+-- Each field is read at its place. Assumes nothing.
+use borrow.Author.Rules.{rules}
+use Rattle.template.proofs.shape_of.Goals as goal
+
+pub returns : goal.returns
+returns c = rw (c.half.ensures, c.half-2.ensures, c.half-3.ensures)

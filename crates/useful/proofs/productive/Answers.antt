@@ -1,0 +1,22 @@
+-- Each mark stays justified, and a pass that adds none has kept every rule. A pass that adds some makes the number larger. Assumes nothing.
+use Prim.Native.Nat.{◌-◌}
+use Rattle.template.specs.Grammar.{Gives}
+use Rattle.trees.specs.Trees.{Productive}
+use Rattle.useful.specs.Marks.{Justified}
+use Rattle.useful.proofs.CloseLaws.{passes}
+use Rattle.useful.proofs.productive.Goals as goal
+
+pub loop-m-init : goal.loop-m-init
+loop-m-init c = search passes
+
+pub pass_up-next-requires : goal.pass_up-next-requires
+pass_up-next-requires c = search passes
+
+pub returns-then-next-m : goal.returns-then-next-m
+returns-then-next-m c = search passes
+
+pub loop-m-smaller : goal.loop-m-smaller
+loop-m-smaller c = search passes
+
+pub loop-m-preserved : goal.loop-m-preserved
+loop-m-preserved c = search passes
