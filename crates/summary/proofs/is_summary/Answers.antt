@@ -1,0 +1,32 @@
+-- Each test that fails names a field of a summary that the struct has not; where all hold, the last decides. Assumes nothing.
+use mathlib.Core.Path.{◌≡◌}
+use Prim.Native.Nat.{◌≤◌}
+use lib.ListN.{length}
+use native.Mathlib.Omega.{arith}
+use borrow.Author.Rules.{rules}
+use Rattle.pieces.specs.Pieces.{most_tags, pieces_long}
+use Rattle.form.specs.Held.{tag_count}
+use Rattle.summary.proofs.PackingLaws.{many_ends_fail, many_tags_fail, names_fail, summary_pass}
+use Rattle.summary.proofs.is_summary.Goals as goal
+
+ruleset answers = (many_ends_fail, many_tags_fail, rules)
+
+pub returns-then-c-gt-TAGS : goal.returns-then-c-gt-TAGS
+returns-then-c-gt-TAGS c = search answers
+
+pub returns-then-c : goal.returns-then-c
+returns-then-c c = search answers
+
+pub returns-then-not-names_fit : goal.returns-then-not-names_fit
+returns-then-not-names_fit c =
+    let room : length c.args.s.names ≡ most_tags = search rules in
+    let few : tag_count c.args.s.counts ≤ most_tags = omega arith in
+    names_fail _ _ c.args.s room few c.names_fit.result c.names_fit.ensures (rw c.if-not-names_fit.true)
+
+pub returns : goal.returns
+returns c =
+    let names-room : length c.args.s.names ≡ most_tags = search rules in
+    let values-room : length c.args.s.values ≡ pieces_long = search rules in
+    let few : tag_count c.args.s.counts ≤ most_tags = omega arith in
+    summary_pass _ _ c.args.s names-room few values-room c.requires c.names_fit.result c.pieces_fit.result c.names_fit.ensures
+    (rw c.if-not-names_fit.false) c.pieces_fit.ensures

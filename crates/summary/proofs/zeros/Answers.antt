@@ -1,0 +1,8 @@
+-- The struct is written out as it is defined. Assumes nothing.
+use borrow.Author.Rules.{rules}
+use Rattle.summary.specs.Packing.{zeros}
+use Rattle.summary.proofs.zeros.Goals as goal
+
+pub returns : goal.returns
+unfolding zeros
+returns c = cc
