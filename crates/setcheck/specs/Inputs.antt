@@ -1,5 +1,7 @@
--- What the functions that read say of the buffer: no more bytes than it holds. Which bytes a read puts there, no contract can say.
-use Rattle.std.specs.Prelude.{ℕ, ◌≤◌}
+-- What the functions that read say of the buffer: no more bytes than it holds; and which bytes, at a reader whose bytes are known. Which bytes
+-- standard input gives, no contract can say.
+use Rattle.std.specs.Prelude.{◌≡◌, ℕ, ◌<◌, ◌≤◌, List, length, take, ⊤, Option, IfSome}
+use Rattle.std.specs.Io.KnownBytes.{Consumes, Keeps, IsAtEnd}
 use Rattle.setcheck.specs.declared.Given.{Given}
 use Rattle.setcheck.specs.declared.Given.TheVariants as given
 use Rattle.setcheck.specs.declared.Input.{Input}
@@ -16,3 +18,16 @@ GivenWithin given.Failed long = Unit {0}
 abbrev pub ReadWithin : Input → ℕ → Type 0
 ReadWithin (input.Whole n) long = n ≤ long
 ReadWithin input.Unread long = Unit {0}
+
+-- what one read gave, of the bytes that the reader had left before it and has left after it: the first ones stand in the buffer, and the end
+-- is told only where none is left
+abbrev pub GivenFrom : Given → Option (List ℕ) → Option (List ℕ) → List ℕ → Type 0
+GivenFrom (given.Bytes n) old new buffer = Consumes old new (take n buffer)
+GivenFrom given.End old new buffer = Keeps old new × (0 < length buffer → IsAtEnd new)
+GivenFrom given.Interrupted old new buffer = Keeps old new
+GivenFrom given.Failed old new buffer = Keeps old new
+
+-- what all reads gave, of the reader's bytes: all of them, or as many as the buffer holds
+abbrev pub ReadFrom : Input → Option (List ℕ) → List ℕ → Type 0
+ReadFrom (input.Whole n) old buffer = IfSome old (λ xs. take n buffer ≡ take (length buffer) xs)
+ReadFrom input.Unread old buffer = ⊤
