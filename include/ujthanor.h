@@ -12,7 +12,7 @@
  * set and its schema in at most 1,560 bytes. docs/RULES.md has the rules: section 4 the layout of a template file, sections 6 to
  * 8 summaries, joining and rounds, section 9 the answers, section 13 long rules. examples/verdict.c shows every call.
  *
- * Link with libujthanor.a (`rt staticlib ujthanor`; x86-64). Every call ends, whatever the bytes are. No call allocates, prints, or keeps
+ * Link with libujthanor.a (`tools/archive`; x86-64). Every call ends, whatever the bytes are. No call allocates, prints, or keeps
  * anything from one call to the next.
  *
  * What a caller must see to. The library cannot test these points; where one is not kept, anything may happen.

@@ -1,4 +1,4 @@
-// Links the archive that `rt staticlib ujthanor` writes. UJTHANOR_LIB names another folder that holds libujthanor.a.
+// Links the archive that `tools/archive` writes. UJTHANOR_LIB names another folder that holds libujthanor.a.
 use std::env;
 use std::path::PathBuf;
 
@@ -10,7 +10,7 @@ fn main() {
     };
     let folder = folder
         .canonicalize()
-        .expect("no libujthanor.a: run `rt staticlib ujthanor` first");
+        .expect("no libujthanor.a: run `tools/archive` first");
     println!("cargo:rustc-link-search=native={}", folder.display());
     println!("cargo:rustc-link-lib=static=ujthanor");
     println!(

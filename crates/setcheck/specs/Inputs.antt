@@ -2,6 +2,7 @@
 -- standard input gives, no contract can say.
 use Rattle.std.specs.Prelude.{◌≡◌, ℕ, ◌<◌, ◌≤◌, List, length, take, ⊤, Option, IfSome}
 use Rattle.std.specs.Io.KnownBytes.{Consumes, Keeps, IsAtEnd}
+use Rattle.line.specs.Lines.{room}
 use Rattle.setcheck.specs.declared.Given.{Given}
 use Rattle.setcheck.specs.declared.Given.TheVariants as given
 use Rattle.setcheck.specs.declared.Input.{Input}
@@ -27,7 +28,7 @@ GivenFrom given.End old new buffer = Keeps old new × (0 < length buffer → IsA
 GivenFrom given.Interrupted old new buffer = Keeps old new
 GivenFrom given.Failed old new buffer = Keeps old new
 
--- what all reads gave, of the reader's bytes: all of them, or as many as the buffer holds
+-- what all reads gave, of the reader's bytes: all of them, or as many as decide the line
 abbrev pub ReadFrom : Input → Option (List ℕ) → List ℕ → Type 0
-ReadFrom (input.Whole n) old buffer = IfSome old (λ xs. take n buffer ≡ take (length buffer) xs)
+ReadFrom (input.Whole n) old buffer = IfSome old (λ xs. take n buffer ≡ take room xs)
 ReadFrom input.Unread old buffer = ⊤
