@@ -65,12 +65,7 @@ fn put_zeros(row: &mut [u64])
 }
 
 // Summarises a fragment: the answer and its number; the summary in the row. A row that is too short is refused first, with 17.
-pub fn ujthanor_fragment(
-    file: &[u8],
-    bytes: &[u8],
-    row: &mut [u64],
-    number: &mut u64,
-) -> u32
+pub fn ujthanor_fragment(file: &[u8], bytes: &[u8], row: &mut [u64], number: &mut u64) -> u32
     ensures { FragmentCalled file.now bytes.now row.old result number.new row.new }
 {
     if row.len() < worktable::ROW {
@@ -150,12 +145,7 @@ pub fn ujthanor_join(
 }
 
 // The net depth of a summary: the answer, its number and the depth.
-pub fn ujthanor_net_depth(
-    file: &[u8],
-    row: &[u64],
-    number: &mut u64,
-    depth: &mut i32,
-) -> u32
+pub fn ujthanor_net_depth(file: &[u8], row: &[u64], number: &mut u64, depth: &mut i32) -> u32
     ensures { DepthCalled file.now row.now result number.new depth.new }
 {
     let s = lent(row);
