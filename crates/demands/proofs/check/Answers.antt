@@ -1,5 +1,4 @@
 -- What the call promises meets the demands (proofs/CallLaws.antt). Assumes nothing.
-use borrow.Author.Rules.{rules}
 use Rattle.demands.proofs.CallLaws.{check_meets}
 use Rattle.demands.proofs.check.Goals as goal
 

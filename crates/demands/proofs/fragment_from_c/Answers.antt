@@ -1,5 +1,4 @@
 -- What the call promises meets the demands (proofs/CallLaws.antt). Assumes nothing.
-use borrow.Author.Rules.{rules}
 use Rattle.demands.proofs.CallLaws.{fragment-from-c}
 use Rattle.demands.proofs.fragment_from_c.Goals as goal
 

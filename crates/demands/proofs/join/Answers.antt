@@ -1,5 +1,4 @@
 -- What the call promises meets the demands (proofs/CallLaws.antt). Assumes nothing.
-use borrow.Author.Rules.{rules}
 use Rattle.demands.proofs.CallLaws.{join_meets}
 use Rattle.demands.proofs.join.Goals as goal
 

@@ -1,5 +1,4 @@
 -- What the call promises meets the demands (proofs/CallLaws.antt). Assumes nothing.
-use borrow.Author.Rules.{rules}
 use Rattle.demands.proofs.CallLaws.{depth_from_c}
 use Rattle.demands.proofs.net_depth_from_c.Goals as goal
 

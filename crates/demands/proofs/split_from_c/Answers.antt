@@ -1,5 +1,4 @@
 -- What the call promises meets the demands (proofs/CallLaws.antt). Assumes nothing.
-use borrow.Author.Rules.{rules}
 use Rattle.demands.proofs.CallLaws.{split-from-c}
 use Rattle.demands.proofs.split_from_c.Goals as goal
 
