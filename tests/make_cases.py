@@ -8,7 +8,7 @@ import os
 K = bytes(int(x) for x in """2 3 2 0 16 0 3 0 28 0 4 0 44 0 1 0 0 2 65 32 1 2 0 66 2 2 1 33 0 0 0 1 0 0 1 0 0 1 1 1 1 0 1 1 1""".split())
 
 cases = []  # (letter, bytes, expected line)
-TURNS = 10000  # the cases that the program runs at most
+READ = 65536  # the bytes that the program reads
 
 
 def half(n):
@@ -674,7 +674,7 @@ def main():
     splits()
     here = os.path.join(os.path.dirname(__file__), "..", "crates", "cases")
     read = b"".join(letter.encode() + half(len(data)) + data for letter, data, _ in cases)
-    assert len(cases) <= TURNS
+    assert len(read) <= READ
     with open(os.path.join(here, "stdin"), "wb") as f:
         f.write(read)
     with open(os.path.join(here, "stdout"), "w") as f:

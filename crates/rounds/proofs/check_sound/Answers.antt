@@ -1,6 +1,7 @@
 -- The start is marked exactly where it derives some page, and what is reached is then useful (PartLaws); so the shares are found, and
 -- they are those of the file's rules. Assumes nothing.
 use mathlib.Core.Path.{refl}
+use borrow.Author.Rules.{rules}
 use Rattle.template.proofs.ShapeLaws.{shape_sound}
 use Rattle.shares.specs.Shares.{Shares}
 use Rattle.rounds.proofs.PartLaws.{of_file, part_in_range, part_few, marked_page, unmarked_no_page, reached_useful}
@@ -19,7 +20,11 @@ returns-then-not-marked c = (
 )
 
 pub reached-useful-requires : goal.reached-useful-requires
-reached-useful-requires c = record { rules_in_range = part_in_range _ c.requires.file_value c.templates_of-rules.ensures; marks_all = c.productive-productive.ensures }
+reached-useful-requires c =
+    record {
+      rules_in_range = part_in_range _ c.requires.file_value c.templates_of-rules.ensures;
+      marks_all = c.productive-productive.ensures;
+    }
 
 pub share-requires : goal.share-requires
 share-requires c =
@@ -29,8 +34,19 @@ share-requires c =
       marks_all_2 = reached_useful _ c.requires.file_value c.templates_of-rules.ensures _ c.productive-productive.ensures _ c.marked.ensures (rw c.if-not-marked.false) _
           c.reached-useful.ensures;
       rules_len_bound = part_few _ c.requires.file_value c.templates_of-rules.ensures;
-      shares_len = refl;
+      shares_len = search rules;
     }
 
 pub rounds-requires : goal.rounds-requires
-rounds-requires c = record { file_value = c.requires.file_value; lore_of = c.teach.ensures; shares = of_file c.args.file.now c.requires.file_value c.templates_of-rules.ensures (λ rules. Shares rules c.share.new.shares) c.share.ensures; has_page = marked_page c.args.file.now c.requires.file_value c.templates_of-rules.ensures _ c.productive-productive.ensures _ c.marked.ensures (rw c.if-not-marked.false); lent = c.requires.lent }
+rounds-requires c =
+    record {
+      file_value = c.requires.file_value;
+      lore_of = c.teach.ensures;
+      shares =
+          of_file c.args.file.now c.requires.file_value c.templates_of-rules.ensures (λ rules. Shares rules c.share.new.shares)
+          c.share.ensures;
+      has_page =
+          marked_page c.args.file.now c.requires.file_value c.templates_of-rules.ensures _ c.productive-productive.ensures _
+          c.marked.ensures (rw c.if-not-marked.false);
+      lent = c.requires.lent;
+    }
