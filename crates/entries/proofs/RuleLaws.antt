@@ -2,11 +2,11 @@
 -- them, and what holds where none fails. Each law opens the definition once; `symbols_hold` goes by induction on the symbols left. Assumes nothing.
 use mathlib.Core.Path.{◌≡◌}
 use mathlib.Core.Bool.{Bool, true, false}
-use mathlib.Core.List.{List, [], ◌∷◌}
+use mathlib.Core.List.{List}
 use Prim.Native.Nat.{ℕ, zero, suc, ◌+◌, ◌-◌, ◌≤◌, ◌<◌}
 use native.Mathlib.Numerals.{add-one}
 use native.Mathlib.Omega.{arith}
-use lib.Dec.{ltb, leb}
+use lib.Dec.{ltb}
 use borrow.Author.Tests.{lt-ltb, le-ltb, le-leb, lt-leb, ltb-true, leb-true}
 use Rattle.entries.specs.Tests.{first_fault}
 use Rattle.entries.specs.Entries.{byte_at, is_symbol, symbol_holds, symbol_tests, field_tests}

@@ -1,10 +1,8 @@
 -- A page's reply from the reply of the same bytes as a fragment. A refusal is the same. Else the bytes spell a word whose reduced form the
 -- summary packs, and what the two tests at the end answer of that form is so of the word (schema/proofs/SchemaLaws.antt). Assumes nothing.
-use mathlib.Core.Path.{◌≡◌, ap, ◌∙◌, subst}
+use mathlib.Core.Path.{◌≡◌, ap, ◌∙◌, subst, refl}
 use mathlib.Core.List.{List, [], ◌∷◌}
 use Prim.Native.Nat.{ℕ}
-use types.Run.{OneOf, miss}
-use denote.Enum.Declared.{tag_of}
 use borrow.Author.Rules.{rules}
 use Rattle.words.specs.Tags.{Tag}
 use Rattle.words.specs.Reduced.{Stack, tags, Reduced}
@@ -26,7 +24,6 @@ use Rattle.reader.proofs.ReadsLaws.{reads_finding}
 use Rattle.summary.specs.declared.FragmentAnswer.{FragmentAnswer}
 use Rattle.summary.specs.declared.FragmentAnswer.TheVariants as fragment
 use Rattle.summary.specs.declared.FragmentReply.{FragmentReply}
-use Rattle.summary.specs.contracts.FragmentAnswer.{the_type}
 use Rattle.summary.specs.Fragments.{FragmentAnswers, FragmentSays, FragmentFinds}
 use Rattle.summary.proofs.FragmentLaws.{taught_lore, says_found}
 use Rattle.page.specs.declared.PageReply.{PageReply}
@@ -60,13 +57,9 @@ end_page f bytes w ending.NotDerived sound all spelled m = (sound, all, (w, spel
 
 -- ---- the replies, from the fragment's
 
--- the tags of the answers that refuse a fragment: all but the first
-abbrev refusals : List ℕ
-refusals = 1 ∷ 2 ∷ 3 ∷ 4 ∷ []
-
-refusal_says : (f bytes : List ℕ) (a : FragmentAnswer) (s : Summary) → OneOf refusals (tag_of the_type a) → FragmentAnswers f bytes a s
+refusal_says : (f bytes : List ℕ) (a : FragmentAnswer) (s : Summary) → (a ≡ fragment.Summarised → ⊥) → FragmentAnswers f bytes a s
     → PageSays f bytes (refusal a)
-refusal_says f bytes fragment.Summarised s k says = absurd (miss refusals 0 tt k)
+refusal_says f bytes fragment.Summarised s k says = absurd (k refl)
 refusal_says f bytes (fragment.BadFile p) s k (bad, _) = bad
 refusal_says f bytes (fragment.NotATag p) s k (sound, read, _) = (sound, read)
 refusal_says f bytes (fragment.Mismatch p) s k (sound, read, _) = (sound, read)
@@ -87,7 +80,7 @@ module _ (f bytes : List ℕ) (r : FragmentReply) (says : FragmentSays f bytes r
       let end = ending_of lore (form_of r.summary) (last_of r.summary) in
       rw is (end_page f bytes formed.word end sound all formed.spelled (ending_means f lore sound taught formed.word _ _ reduces))
 
-  pub refused_page : OneOf refusals (tag_of the_type r.answer) → (p : PageReply) → p ≡ refusal r.answer → PageSays f bytes p
+  pub refused_page : (r.answer ≡ fragment.Summarised → ⊥) → (p : PageReply) → p ≡ refusal r.answer → PageSays f bytes p
   refused_page k p is = rw is (refusal_says f bytes r.answer r.summary k says)
 
 pub ruleset page_turns = (

@@ -17,7 +17,7 @@ use borrow.Author.Rules.{rules}
 use Rattle.numbers.proofs.TestLaws.{and_out}
 use Rattle.words.specs.Tags.{Tag, most_names}
 use Rattle.words.specs.Binoid.{Binoid, Laws, Value}
-use Rattle.words.specs.Outermost.{OutermostOf, several, at_most_several, outermost, beside}
+use Rattle.words.specs.Outermost.{OutermostOf, several, at_most_several, outermost}
 use Rattle.words.proofs.ValueLaws.{value_balanced}
 use Rattle.words.proofs.OutermostLaws.{value_sides, beside_laws, few_stay, many_limited, outermost_few, outermost_laws, outermost_one, outermost_of}
 use Rattle.hedge.specs.Schema.{most_states, Valid, schema_from, RulesBelow, EndsBelow}
@@ -25,7 +25,7 @@ use Rattle.hedge.specs.Relation.{RelationOf}
 use Rattle.hedge.specs.Operations.{unit, compose, wrap, full, covers, relations}
 use Rattle.hedge.proofs.NumberLaws.{relations_laws, relation_of_value, derives_accepts}
 use Rattle.hedge.proofs.CoverLaws.{covers_within}
-use Rattle.lore.specs.Lore.{NamesBelow, Taught, IsLore, taught}
+use Rattle.lore.specs.Lore.{NamesBelow, Taught, IsLore}
 use Rattle.lore.proofs.LoreLaws.{zero_at}
 use Rattle.lore.proofs.TaughtLaws.{taught-wrap, taught-accepts, taught_laws}
 use Rattle.pieces.specs.declared.Piece.{Piece}

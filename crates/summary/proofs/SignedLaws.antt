@@ -40,4 +40,4 @@ module _ (a b : ℕ) (few : b + a ≤ 16) where
 
   -- once more, where it was handed on
   pub difference_again : (z : ℤ) → z ≡ pos a -ℤ pos b → to_z w32 (of_z w32 z) ≡ pos a -ℤ pos b
-  difference_again z e = rw e (to_z-of_z (record { sfits = omega (arith, mag_difference a b 16 (omega arith) (omega arith)) }))
+  difference_again z e = rw e (to_z-of_z {w = w32} (record { sfits = omega (arith, mag_difference a b 16 (omega arith) (omega arith)) }))

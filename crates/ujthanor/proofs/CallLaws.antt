@@ -7,8 +7,6 @@ use Prim.Native.Nat.{ℕ, ◌≤◌, ◌<◌}
 use native.Mathlib.Omega.{arith}
 use lib.IntN.{ℤ, pos}
 use lib.ListN.{length}
-use types.Run.{OneOf, miss}
-use denote.Enum.Declared.{tag_of}
 use borrow.Author.Rules.{rules}
 use Rattle.words.specs.Reduced.{Stack}
 use Rattle.pieces.specs.declared.Piece.{Piece}
@@ -23,7 +21,7 @@ use Rattle.summary.specs.declared.FragmentReply.{FragmentReply}
 use Rattle.summary.specs.contracts.FragmentAnswer as Fragment
 use Rattle.summary.specs.contracts.JoinAnswer as Joins
 use Rattle.summary.specs.contracts.DepthReply as Depth
-use Rattle.summary.proofs.DepthLaws.{others as depths, no_depth}
+use Rattle.summary.proofs.DepthLaws.{no_depth}
 use Rattle.summary.specs.declared.DepthReply.{DepthReply}
 use Rattle.summary.specs.declared.DepthReply.TheVariants as depth
 use Rattle.rounds.specs.declared.CheckReply.{CheckReply}
@@ -31,7 +29,7 @@ use Rattle.rounds.specs.declared.CheckReply.TheVariants as check
 use Rattle.rounds.specs.Checks.{CheckSays}
 use Rattle.rounds.specs.Answers.{answer, number, images}
 use Rattle.rounds.specs.contracts.CheckReply as Check
-use Rattle.rounds.proofs.AnswerLaws.{others, no_images}
+use Rattle.rounds.proofs.AnswerLaws.{no_images}
 use Rattle.summary.specs.declared.JoinAnswer.{JoinAnswer}
 use Rattle.summary.specs.declared.JoinAnswer.TheVariants as joined
 use Rattle.summary.specs.declared.JoinReply.{JoinReply}
@@ -91,16 +89,16 @@ join_few f left right r says = let made = join_made f left right r says in (made
 -- ---- a reply that is not answered 0: its summary is all zeros
 
 fragment_zeros : (f bytes : List ℕ) (a : FragmentAnswer) (s : Summary) → FragmentAnswers f bytes a s
-    → OneOf (1 ∷ 2 ∷ 3 ∷ 4 ∷ []) (tag_of Fragment.the_type a) → zeros ≡ s
-fragment_zeros f bytes fragment.Summarised s says k = absurd (miss (1 ∷ 2 ∷ 3 ∷ 4 ∷ []) 0 tt k)
+    → (a ≡ fragment.Summarised → ⊥) → zeros ≡ s
+fragment_zeros f bytes fragment.Summarised s says k = absurd (k refl)
 fragment_zeros f bytes (fragment.BadFile p) s (_, e) k = sym e
 fragment_zeros f bytes (fragment.NotATag p) s (_, _, e) k = sym e
 fragment_zeros f bytes (fragment.Mismatch p) s (_, _, e) k = sym e
 fragment_zeros f bytes (fragment.TooDeep p) s (_, _, e) k = sym e
 
 join_zeros : (f : List ℕ) (left right : Summary) (a : JoinAnswer) (s : Summary) → JoinAnswers f left right a s
-    → OneOf (1 ∷ 2 ∷ 3 ∷ 4 ∷ []) (tag_of Joins.the_type a) → zeros ≡ s
-join_zeros f left right joined.Joined s says k = absurd (miss (1 ∷ 2 ∷ 3 ∷ 4 ∷ []) 0 tt k)
+    → (a ≡ joined.Joined → ⊥) → zeros ≡ s
+join_zeros f left right joined.Joined s says k = absurd (k refl)
 join_zeros f left right (joined.BadFile p) s (_, e) k = sym e
 join_zeros f left right joined.NoSummary s (_, _, e) k = sym e
 join_zeros f left right joined.Mismatch s (_, _, e) k = sym e
@@ -125,7 +123,7 @@ module _ (f bytes row : List ℕ) (a n : ℕ) (row' : List ℕ) where
       }
 
   pub fragment_refused : (r : FragmentReply) → row_width ≤ length row → FragmentSays f bytes r → a ≡ fragment_answer r.answer
-      → n ≡ fragment_number r.answer → OneOf (1 ∷ 2 ∷ 3 ∷ 4 ∷ []) (tag_of Fragment.the_type r.answer) → row' ≡ written row zeros
+      → n ≡ fragment_number r.answer → (r.answer ≡ fragment.Summarised → ⊥) → row' ≡ written row zeros
       → FragmentCalled f bytes row a n row'
   fragment_refused r long says e d k w =
       fragment_written r long says e d (w ∙ ap (written row) (fragment_zeros f bytes r.answer r.summary says k))
@@ -161,7 +159,7 @@ module _ (f left right row : List ℕ) (a n : ℕ) (row' : List ℕ) where
       }
 
   pub join-refused : (l m : Summary) (r : JoinReply) → row_width ≤ length row → StandsFor left l → StandsFor right m → JoinSays f l m r
-      → a ≡ join_answer r.answer → n ≡ join_number r.answer → OneOf (1 ∷ 2 ∷ 3 ∷ 4 ∷ []) (tag_of Joins.the_type r.answer)
+      → a ≡ join_answer r.answer → n ≡ join_number r.answer → (r.answer ≡ joined.Joined → ⊥)
       → row' ≡ written row zeros → JoinCalled f left right row a n row'
   join-refused l m r long first second says e d k w =
       join_written l m r long first second says e d (w ∙ ap (written row) (join_zeros f l m r.answer r.summary says k))
@@ -179,7 +177,7 @@ module _ (f t : List ℕ) (budget a n m : ℕ) (t' : List ℕ) (r : CheckReply) 
         images_are = i ∙ ap (λ (r : CheckReply). images r) (sym p);
       }
 
-  pub check_other : OneOf others (tag_of Check.the_type r) → a ≡ answer r → n ≡ number r → m ≡ 0 → CheckCalled f t budget a n m t'
+  pub check_other : ((round found : ℕ) → r ≡ check.Passed round found → ⊥) → a ≡ answer r → n ≡ number r → m ≡ 0 → CheckCalled f t budget a n m t'
   check_other k e d i =
       record { reply = r; says = says; answer_is = e; number_is = d; images_are = i ∙ no_images r k }
 
@@ -194,7 +192,7 @@ module _ (f row : List ℕ) (a n : ℕ) (z : ℤ) (s : Summary) (stands : Stands
   depth_measured y p e i =
       depth_called (e ∙ ap (λ (r : DepthReply). depth_answer r) (sym p)) (i ∙ ap (λ (r : DepthReply). net_depth r) (sym p))
 
-  pub depth_refused : OneOf depths (tag_of Depth.the_type r) → a ≡ depth_answer r → z ≡ pos 0 → DepthCalled f row a n z
+  pub depth_refused : ((z : ℤ) → r ≡ depth.Net z → ⊥) → a ≡ depth_answer r → z ≡ pos 0 → DepthCalled f row a n z
   depth_refused k e i = depth_called e (i ∙ no_depth r k)
 
 pub ruleset calls = (

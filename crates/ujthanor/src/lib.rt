@@ -1,4 +1,4 @@
-// What C and Rust link: numbers and slices only. Each call hands on to the crate that makes its promise, and lays the reply out in numbers
+// What C and Rust call (crate ujthanor_c exports it): numbers and slices only. Each call hands on to the crate that makes its promise, and lays the reply out in numbers
 // (Rules, section 9). A summary is a row in the worktable's layout, its nonterminal part 0 (section 10). Nothing is asked of what is lent.
 #![tactic(auto)]
 
@@ -14,8 +14,7 @@ ghost use Rattle.ujthanor.specs.Calls.{CheckCalled, PageCalled, FragmentCalled, 
 const SHORT_ROW: u32 = 17;
 
 // Checks a template set: the answer, its number and the images; the worktable as `rounds::check` leaves it.
-#[unsafe(no_mangle)]
-pub extern "C" fn ujthanor_check(
+pub fn ujthanor_check(
     file: &[u8],
     table: &mut [u64],
     budget: usize,
@@ -36,8 +35,7 @@ pub extern "C" fn ujthanor_check(
 }
 
 // Reads a page: the answer and its number.
-#[unsafe(no_mangle)]
-pub extern "C" fn ujthanor_page(file: &[u8], bytes: &[u8], number: &mut u64) -> u32
+pub fn ujthanor_page(file: &[u8], bytes: &[u8], number: &mut u64) -> u32
     ensures { PageCalled file.now bytes.now result number.new }
 {
     let r = page::read(file, bytes);
@@ -67,13 +65,7 @@ fn put_zeros(row: &mut [u64])
 }
 
 // Summarises a fragment: the answer and its number; the summary in the row. A row that is too short is refused first, with 17.
-#[unsafe(no_mangle)]
-pub extern "C" fn ujthanor_fragment(
-    file: &[u8],
-    bytes: &[u8],
-    row: &mut [u64],
-    number: &mut u64,
-) -> u32
+pub fn ujthanor_fragment(file: &[u8], bytes: &[u8], row: &mut [u64], number: &mut u64) -> u32
     ensures { FragmentCalled file.now bytes.now row.old result number.new row.new }
 {
     if row.len() < worktable::ROW {
@@ -126,8 +118,7 @@ fn lent(row: &[u64]) -> form::Summary
 }
 
 // Joins two summaries: the answer and its number; the joined summary in the row. A row that is too short is refused first, with 17.
-#[unsafe(no_mangle)]
-pub extern "C" fn ujthanor_join(
+pub fn ujthanor_join(
     file: &[u8],
     left: &[u64],
     right: &[u64],
@@ -154,13 +145,7 @@ pub extern "C" fn ujthanor_join(
 }
 
 // The net depth of a summary: the answer, its number and the depth.
-#[unsafe(no_mangle)]
-pub extern "C" fn ujthanor_net_depth(
-    file: &[u8],
-    row: &[u64],
-    number: &mut u64,
-    depth: &mut i32,
-) -> u32
+pub fn ujthanor_net_depth(file: &[u8], row: &[u64], number: &mut u64, depth: &mut i32) -> u32
     ensures { DepthCalled file.now row.now result number.new depth.new }
 {
     let s = lent(row);
@@ -175,8 +160,7 @@ pub extern "C" fn ujthanor_net_depth(
 }
 
 // Splits the rules of a file of long rules: the answer and its number; the ordinary file in the output.
-#[unsafe(no_mangle)]
-pub extern "C" fn ujthanor_split(file: &[u8], out: &mut [u8], number: &mut u64) -> u32
+pub fn ujthanor_split(file: &[u8], out: &mut [u8], number: &mut u64) -> u32
     ensures { SplitCalled file.now out.old result number.new out.new }
 {
     let r = long::split(file, out);

@@ -63,8 +63,8 @@ pub record AtRule (rules : List ℕ) (round : Round) (fresh i : ℕ) (parts : Ru
   pub right_is : parts.right ≡ right_slot rules i
   pub lefts_is : parts.lefts ≡ lefts_of (walked_at round fresh parts) (choices parts.left round.rows)
   pub rights_is : parts.rights ≡ choices parts.right round.rows
-  pub new-left : parts.new_left ≡ new_from parts.left round.prev round.first
-  pub new-right : parts.new_right ≡ new_from parts.right round.prev round.first
+  pub new_left : parts.new_left ≡ new_from parts.left round.prev round.first
+  pub new_right : parts.new_right ≡ new_from parts.right round.prev round.first
 
 -- ---- where the walk stands
 

@@ -1,6 +1,5 @@
 -- The walk's stages (VisitLaws.antt, JoinedLaws.antt) in the words of `walk_round`: the choices of a rule that is walked can be loaded, and
--- a turn leads to the next right choice or stops the walk. A loop leads from the place where it begins to the place where it stands,
--- whatever table the walk began from, since an inner loop cannot name it (`Leads`). Assumes nothing.
+-- a turn leads to the next right choice or stops the walk. Assumes nothing.
 use mathlib.Core.Path.{◌≡◌, refl}
 use mathlib.Core.Bool.{Bool, true, false}
 use mathlib.Core.List.{List}
@@ -25,11 +24,6 @@ use Rattle.walk.specs.declared.Walk.TheVariants.{Stopped}
 use Rattle.walk.proofs.ProgressLaws.{no_notes}
 use Rattle.walk.proofs.PlaceLaws.{LentParts, RuleParts, AtRule, walked_at, Begun, Place, place, Going, going_start}
 use Rattle.walk.proofs.JoinedLaws.{AfterTurn, joined_next}
-
--- from one place to another
-pub record Leads (lore rules : List ℕ) (round : Round) (fresh : ℕ) (p q : Place) : Type 0 where
-  pub same_length : length q.table ≡ length p.table
-  pub goes : (t₀ : List ℕ) → Going lore rules round fresh t₀ p → Going lore rules round fresh t₀ q
 
 -- a left choice below the number of those that are walked is one, and the rule is walked
 lefts_below : (walked : Bool) (j lefts all : ℕ) → lefts ≡ lefts_of walked all → j < lefts → (walked ≡ true) × (j < all)

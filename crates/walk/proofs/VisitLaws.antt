@@ -137,7 +137,7 @@ module _ {lore rules t₀ : List ℕ} {round : Round} {fresh : ℕ} {p : Place} 
               let v : parts.rights ≤ parts.new_right = ltb-false parts.new_right parts.rights q in
               let w : c < choices parts.right round.rows = rw rule.right_is m.is_right in
               let u : c < parts.new_right = omega (arith, w, v, rule.rights_is) in
-              old_noted p.i b c x o m (rw (← rule.left_is, ← rule.new-left) l) (rw (← rule.right_is, ← rule.new-right) u)
+              old_noted p.i b c x o m (rw (← rule.left_is, ← rule.new_left) l) (rw (← rule.right_is, ← rule.new_right) u)
 
           at : (a b c x : ℕ) (o : Outcome Piece) → Met a b c x o → Before p.i j 0 a b c
               → Before p.i p.j p.k a b c ⊎ NotedHere x o
@@ -159,8 +159,8 @@ module _ {lore rules t₀ : List ℕ} {round : Round} {fresh : ℕ} {p : Place} 
               absurd (false≢true (sym q ∙ fits_later (pieces lore).unit t₀ p.table round.rows (same going) (left_slot rules p.i) p.j
               m.form m.last m.left))
           passed true true q u c x o m l =
-              old_noted p.i p.j c x o m (rw (← rule.left_is, ← rule.new-left) (ltb-true p.j parts.new_left u))
-              (rw (← rule.right_is, ← rule.new-right) l)
+              old_noted p.i p.j c x o m (rw (← rule.left_is, ← rule.new_left) (ltb-true p.j parts.new_left u))
+              (rw (← rule.right_is, ← rule.new_right) l)
           passed true false q u c x o m l = absurd (omega arith)
 
           at : (a b c x : ℕ) (o : Outcome Piece) → Met a b c x o → Before p.i p.j k a b c

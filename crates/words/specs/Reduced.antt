@@ -1,7 +1,7 @@
 -- The reduced form of a word, by its factorisation. The source, sections 2 and 3.2: a word that is not mismatched is balanced words
 -- with unmatched end tags and then unmatched start tags between them; ν puts the value of each balanced word in its place. Rules,
 -- section 6: what stays of a string when its complete elements are struck out.
-use Rattle.std.specs.Prelude.{List, [], ◌∷◌, ◌++◌, ℕ, suc, ℤ, pos, ◌-ℤ◌}
+use Rattle.std.specs.Prelude.{List, ◌∷◌, ◌++◌, ℕ, suc, ℤ, pos, ◌-ℤ◌}
 use Rattle.words.specs.Tags.{Tag, start, end}
 use Rattle.words.specs.Binoid.{Binoid, Value}
 

@@ -1,7 +1,6 @@
 -- The body's first entry ascends. A later one does where the entry before it precedes it: the two slices are the definition's
 -- parts of `wide` bytes. Assumes nothing.
 use mathlib.Core.Path.{◌∙◌}
-use borrow.Author.Rules.{rules}
 use Rattle.entries.proofs.AscentLaws.{ascends_first, ascends_later}
 use Rattle.entries.proofs.ascends.Goals as goal
 

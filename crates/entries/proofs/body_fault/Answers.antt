@@ -1,13 +1,10 @@
 -- The first fault of the whole body is that of the entries left, k entries on: an entry's fault stays, and without one the next
 -- entry decides. The entries left still fit into the file, so that each entry may be read. Assumes nothing.
 use mathlib.Core.Path.{◌≡◌, refl, ◌∙◌, sym}
-use Prim.Native.Nat.{◌+◌, ◌*◌, ◌-◌, ◌≤◌}
+use Prim.Native.Nat.{◌-◌}
 use native.Mathlib.Omega.{arith}
 use borrow.Author.Rules.{rules}
-use lib.ListN.{length}
-use Rattle.entries.specs.Tests.{first_fault}
-use Rattle.entries.specs.Entries.{width}
-use Rattle.entries.proofs.BodyLaws.{entries_of, body_end, body-fault, body_further, room_next}
+use Rattle.entries.proofs.BodyLaws.{body_end, body-fault, body_further, room_next}
 use Rattle.entries.proofs.body_fault.Goals as goal
 
 pub loop-k-init : goal.loop-k-init

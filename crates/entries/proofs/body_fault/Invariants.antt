@@ -1,11 +1,9 @@
-use mathlib.Core.Path.{◌≡◌, refl, ◌∙◌, sym}
+use mathlib.Core.Path.{◌≡◌}
 use Prim.Native.Nat.{◌+◌, ◌*◌, ◌-◌, ◌≤◌}
-use native.Mathlib.Omega.{arith}
-use borrow.Author.Rules.{rules}
 use lib.ListN.{length}
 use Rattle.entries.specs.Tests.{first_fault}
 use Rattle.entries.specs.Entries.{width}
-use Rattle.entries.proofs.BodyLaws.{entries_of, body_end, body-fault, body_further, room_next}
+use Rattle.entries.proofs.BodyLaws.{entries_of}
 use Rattle.entries.proofs.body_fault.Given as goal
 
 abbrev pub invariant-loop-k : goal.invariant-loop-k

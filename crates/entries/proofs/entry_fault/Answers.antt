@@ -1,5 +1,4 @@
 -- The fields' fault stays; without one the ascent is tested, at the body's width. Assumes nothing.
-use borrow.Author.Rules.{rules}
 use Rattle.entries.specs.Entries.{field_tests, entry_tests}
 use Rattle.entries.proofs.OrderLaws.{first_stays, first_passes}
 use Rattle.entries.proofs.entry_fault.Goals as goal

@@ -1,7 +1,6 @@
 -- By the body: its function has the tests, and an ending state is one test. The room that is asked is the body's width.
 -- Assumes nothing.
 use native.Mathlib.Omega.{arith}
-use borrow.Author.Rules.{rules}
 use Rattle.entries.specs.Entries.{width, field_tests}
 use Rattle.entries.proofs.field_fault.Goals as goal
 

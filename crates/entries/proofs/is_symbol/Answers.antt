@@ -1,6 +1,5 @@
 -- The ranges are asked from the lowest on, and each way out is a law of the definition at that range. Assumes nothing.
 use native.Mathlib.Omega.{arith}
-use borrow.Author.Rules.{rules}
 use Rattle.entries.proofs.RuleLaws.{byte_start, byte_below_ends, byte_end, byte_below_nonterminals, byte_nonterminal}
 use Rattle.entries.proofs.is_symbol.Goals as goal
 

@@ -1,11 +1,7 @@
 -- The whole comparison is the comparison from place i on: equal bytes go one further, the first that differ decide, and a list
 -- that ends before them precedes nothing. Assumes nothing.
-use mathlib.Core.Path.{◌≡◌, ◌∙◌, sym}
-use Prim.Native.Nat.{◌-◌, ◌≤◌}
+use mathlib.Core.Path.{◌∙◌, sym}
 use native.Mathlib.Omega.{arith}
-use borrow.Author.Rules.{rules}
-use lib.ListN.{length, drop}
-use Rattle.entries.specs.Entries.{precedes}
 use Rattle.entries.proofs.AscentLaws.{precedes_past_left, precedes_past_right, precedes_less, precedes_more, precedes_same}
 use Rattle.entries.proofs.precedes.Goals as goal
 

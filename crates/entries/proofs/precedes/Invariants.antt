@@ -1,10 +1,7 @@
-use mathlib.Core.Path.{◌≡◌, ◌∙◌, sym}
+use mathlib.Core.Path.{◌≡◌}
 use Prim.Native.Nat.{◌-◌, ◌≤◌}
-use native.Mathlib.Omega.{arith}
-use borrow.Author.Rules.{rules}
 use lib.ListN.{length, drop}
 use Rattle.entries.specs.Entries.{precedes}
-use Rattle.entries.proofs.AscentLaws.{precedes_past_left, precedes_past_right, precedes_less, precedes_more, precedes_same}
 use Rattle.entries.proofs.precedes.Given as goal
 
 abbrev pub invariant-loop-i : goal.invariant-loop-i

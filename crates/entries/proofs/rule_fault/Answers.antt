@@ -1,5 +1,4 @@
 -- A left side or a length that is too large leaves with its place; behind them the symbols decide. Assumes nothing.
-use borrow.Author.Rules.{rules}
 use Rattle.entries.proofs.RuleLaws.{rule_left, rule_long, rule_rest}
 use Rattle.entries.proofs.rule_fault.Goals as goal
 

@@ -1,5 +1,4 @@
 -- A field that is too large leaves with its place, where those before it are small enough: the definition's tests up to it. Assumes nothing.
-use borrow.Author.Rules.{rules}
 use borrow.Author.Tests.{lt-ltb, le-ltb}
 use Rattle.entries.specs.Tests.{first_fault}
 use Rattle.entries.specs.Entries.{field_tests}

@@ -1,5 +1,4 @@
 -- A used place asks what `is_symbol` asks, an unused one compares with 255: the definition's two clauses. Assumes nothing.
-use borrow.Author.Rules.{rules}
 use Rattle.entries.proofs.symbol_holds.Goals as goal
 
 pub returns-then-used : goal.returns-then-used

@@ -1,11 +1,8 @@
 -- The first fault of all symbols is that of the symbols left, from symbol j on: one that fails leaves with its place, and behind one that passes
 -- the next decides. Assumes nothing.
-use mathlib.Core.Path.{◌≡◌, refl, ◌∙◌, sym}
-use Prim.Native.Nat.{◌-◌, ◌≤◌}
+use mathlib.Core.Path.{◌≡◌, ◌∙◌, sym}
+use Prim.Native.Nat.{◌-◌}
 use native.Mathlib.Omega.{arith}
-use borrow.Author.Rules.{rules}
-use Rattle.entries.specs.Tests.{first_fault}
-use Rattle.entries.specs.Entries.{symbol_tests}
 use Rattle.entries.proofs.RuleLaws.{symbols_end, symbols-fault, symbols_further}
 use Rattle.entries.proofs.symbols_fault.Goals as goal
 

@@ -1,11 +1,7 @@
-use mathlib.Core.Path.{◌≡◌, refl, ◌∙◌, sym}
+use mathlib.Core.Path.{◌≡◌}
 use Prim.Native.Nat.{◌-◌, ◌≤◌}
-use native.Mathlib.Omega.{arith}
-use borrow.Author.Rules.{rules}
-use borrow.Author.Tests.{not-true, not-false}
 use Rattle.entries.specs.Tests.{first_fault}
 use Rattle.entries.specs.Entries.{symbol_tests}
-use Rattle.entries.proofs.RuleLaws.{symbols_end, symbols-fault, symbols_further}
 use Rattle.entries.proofs.symbols_fault.Given as goal
 
 abbrev pub invariant-loop-j : goal.invariant-loop-j

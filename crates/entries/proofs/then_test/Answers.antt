@@ -1,5 +1,4 @@
 -- By the fault that is there, and where there is none by the test: each way is a clause of `or_then` and `unless`. Assumes nothing.
-use borrow.Author.Rules.{rules}
 use Rattle.entries.specs.Tests.{first_fault}
 use Rattle.entries.proofs.then_test.Goals as goal
 

@@ -1,5 +1,4 @@
 -- Each variant's number is the definition's, once the variant is known. Assumes nothing.
-use borrow.Author.Rules.{rules}
 use Rattle.entries.specs.Entries.{width}
 use Rattle.entries.proofs.width.Goals as goal
 

@@ -1,9 +1,5 @@
 -- The turn at y joins what goes through y to what goes through the states below it; both relations have been moved down by y states.
 -- Assumes nothing.
-use mathlib.Core.Path.{◌≡◌}
-use Prim.Native.Nat.{◌*◌, ◌/◌, ◌^◌, ◌-◌, ◌≤◌}
-use Rattle.hedge.specs.Relation.{has}
-use Rattle.hedge.specs.Operations.{linked, relation}
 use Rattle.hedge.proofs.LoopLaws.{turns}
 use Rattle.hedge.proofs.compose.Goals as goal
 

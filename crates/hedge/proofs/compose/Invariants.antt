@@ -2,7 +2,6 @@ use mathlib.Core.Path.{◌≡◌}
 use Prim.Native.Nat.{◌*◌, ◌/◌, ◌^◌, ◌-◌, ◌≤◌}
 use Rattle.hedge.specs.Relation.{has}
 use Rattle.hedge.specs.Operations.{linked, relation}
-use Rattle.hedge.proofs.LoopLaws.{turns}
 use Rattle.hedge.proofs.compose.Given as goal
 
 abbrev pub invariant-loop-y : goal.invariant-loop-y

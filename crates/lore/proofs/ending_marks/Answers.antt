@@ -1,10 +1,4 @@
 -- The bits are those of the j first ending states. Assumes nothing.
-use mathlib.Core.Path.{◌≡◌}
-use Prim.Native.Nat.{◌≤◌, ◌-◌}
-use lib.ListN.{length}
-use Rattle.numbers.specs.Bits.{number}
-use Rattle.hedge.specs.Schema.{most_states}
-use Rattle.lore.specs.Lore.{marked}
 use Rattle.lore.proofs.LoreLaws.{lores}
 use Rattle.lore.proofs.ending_marks.Goals as goal
 

@@ -4,7 +4,6 @@ use lib.ListN.{length}
 use Rattle.numbers.specs.Bits.{number}
 use Rattle.hedge.specs.Schema.{most_states}
 use Rattle.lore.specs.Lore.{marked}
-use Rattle.lore.proofs.LoreLaws.{lores}
 use Rattle.lore.proofs.ending_marks.Given as goal
 
 abbrev pub invariant-loop-j : goal.invariant-loop-j

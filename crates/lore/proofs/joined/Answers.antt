@@ -1,8 +1,4 @@
 -- The turn at y joins the entry of inner state y where its row meets the ending states. Assumes nothing.
-use mathlib.Core.Path.{◌≡◌}
-use Prim.Native.Nat.{◌≤◌, ◌-◌}
-use Rattle.hedge.specs.Schema.{most_states}
-use Rattle.lore.specs.Lore.{joined}
 use Rattle.lore.proofs.LoreLaws.{lores}
 use Rattle.lore.proofs.joined.Goals as goal
 

@@ -2,7 +2,6 @@ use mathlib.Core.Path.{◌≡◌}
 use Prim.Native.Nat.{◌≤◌, ◌-◌}
 use Rattle.hedge.specs.Schema.{most_states}
 use Rattle.lore.specs.Lore.{joined}
-use Rattle.lore.proofs.LoreLaws.{lores}
 use Rattle.lore.proofs.joined.Given as goal
 
 abbrev pub invariant-loop-y : goal.invariant-loop-y

@@ -1,10 +1,6 @@
 -- Entries and leaves are those of the i first rules. What the call asks is given part by part: one search for all of it is too long.
 -- Assumes nothing.
-use Prim.Native.Nat.{◌≤◌, ◌-◌, ◌/◌}
-use lib.ListN.{length}
 use borrow.Author.Rules.{rules}
-use Rattle.hedge.specs.Schema.{most_states}
-use Rattle.lore.specs.Lore.{Masks, Leaves}
 use Rattle.lore.proofs.LoreLaws.{lores}
 use Rattle.lore.proofs.teach_rules.Goals as goal
 

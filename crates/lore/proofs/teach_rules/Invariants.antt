@@ -1,9 +1,7 @@
 use Prim.Native.Nat.{◌≤◌, ◌-◌, ◌/◌}
 use lib.ListN.{length}
-use borrow.Author.Rules.{rules}
 use Rattle.hedge.specs.Schema.{most_states}
 use Rattle.lore.specs.Lore.{Masks, Leaves}
-use Rattle.lore.proofs.LoreLaws.{lores}
 use Rattle.lore.proofs.teach_rules.Given as goal
 
 abbrev pub invariant-loop-i : goal.invariant-loop-i

@@ -9,7 +9,4 @@ use Rattle.summary.proofs.DepthLaws.{no_depth}
 use Rattle.summary.proofs.depth_of.Goals as goal
 
 pub returns-in_default : goal.returns-in_default
-returns-in_default c = no_depth c.args.r c.in-Net.keys2
-
-pub returns : goal.returns
-returns c = to_z-of_z (record { sfits = c.known_told-1.given.0.1 }) ∙ ap (λ (r : DepthReply). net_depth r) (sym c.in-Net.is)
+returns-in_default c = no_depth c.args.r c.in_default.not-Net

@@ -20,10 +20,7 @@ pub refused-requires : goal.refused-requires
 refused-requires c = search fragment_turns
 
 pub returns-in_default : goal.returns-in_default
-returns-in_default c =
-    let read = c.read-r in
-    let told = c.enum_told-1.given in
-    says_bad _ _ c.refused.result _ c.refused.ensures (bad_at _ _ _ _ read.ensures told.1 c.place.ensures)
+returns-in_default c = says_bad _ _ c.refused.result _ c.refused.ensures (bad_at _ _ _ _ c.read-r.ensures c.in_default.is c.place.ensures)
 
 pub teach-requires : goal.teach-requires
 teach-requires c = search fragment_turns

@@ -19,17 +19,14 @@ returns-then-c c = search answers
 
 pub returns-then-not-names_fit : goal.returns-then-not-names_fit
 returns-then-not-names_fit c =
-    let s = c.args.s in
-    let room : length s.names ≡ most_tags = search rules in
-    let few : tag_count s.counts ≤ most_tags = omega arith in
-    names_fail _ _ s room few c.names_fit.result c.names_fit.ensures c.if-not-names_fit.true
+    let room : length c.args.s.names ≡ most_tags = search rules in
+    let few : tag_count c.args.s.counts ≤ most_tags = omega arith in
+    names_fail _ _ c.args.s room few c.names_fit.result c.names_fit.ensures (rw c.if-not-names_fit.true)
 
 pub returns : goal.returns
 returns c =
-    let s = c.args.s in
-    let names-room : length s.names ≡ most_tags = search rules in
-    let values-room : length s.values ≡ pieces_long = search rules in
-    let few : tag_count s.counts ≤ most_tags = omega arith in
-    let names = c.names_fit in
-    summary_pass _ _ s names-room few values-room c.requires names.result c.pieces_fit.result names.ensures
-    c.if-not-names_fit.false c.pieces_fit.ensures
+    let names-room : length c.args.s.names ≡ most_tags = search rules in
+    let values-room : length c.args.s.values ≡ pieces_long = search rules in
+    let few : tag_count c.args.s.counts ≤ most_tags = omega arith in
+    summary_pass _ _ c.args.s names-room few values-room c.requires c.names_fit.result c.pieces_fit.result c.names_fit.ensures
+    (rw c.if-not-names_fit.false) c.pieces_fit.ensures

@@ -12,42 +12,26 @@ pub returns-in_default : goal.returns-in_default
 returns-in_default c = bad_at _ _ _ _ c.read-r.ensures c.in_default.is c.place.ensures
 
 pub is_summary-requires : goal.is_summary-requires
-is_summary-requires c =
-    let read = c.read-r in
-    let known = c.r-1.given in
-    states_few _ _ (read_is _ _ _ read.ensures known.1) c.wide.result c.wide.ensures.0
+is_summary-requires c = states_few _ _ (read_is _ _ _ c.read-r.ensures c.in-Sound.is) c.wide.result c.wide.ensures.0
 
 pub returns-then-not-is_summary : goal.returns-then-not-is_summary
-returns-then-not-is_summary c =
-    let read = c.read-r in
-    let known = c.r-1.given in
-    let wide = c.wide in
-    let test = c.is_summary in (
-      shape_sound _ _ (read_is _ _ _ read.ensures known.1),
-      failed_summary _ _ (read_is _ _ _ read.ensures known.1) wide.result wide.ensures.0 _ test.result test.ensures
-          c.if-not-is_summary.true,
-    )
+returns-then-not-is_summary c = (
+  shape_sound _ _ (read_is _ _ _ c.read-r.ensures c.in-Sound.is),
+  failed_summary _ _ (read_is _ _ _ c.read-r.ensures c.in-Sound.is) c.wide.result c.wide.ensures.0 _ c.is_summary.result c.is_summary.ensures
+      (rw c.if-not-is_summary.true),
+)
 
 pub difference-requires : goal.difference-requires
 difference-requires c =
-    let read = c.read-r in
-    let known = c.r-1.given in
-    let wide = c.wide in
-    let test = c.is_summary in
-    (passed_summary _ _ (read_is _ _ _ read.ensures known.1) wide.result wide.ensures.0 _ test.result test.ensures
-    c.if-not-is_summary.false).few
+    (passed_summary _ _ (read_is _ _ _ c.read-r.ensures c.in-Sound.is) c.wide.result c.wide.ensures.0 _ c.is_summary.result c.is_summary.ensures
+    (rw c.if-not-is_summary.false)).few
 
 pub returns : goal.returns
 returns c =
-    let s = c.args.s in
-    let read = c.read-r in
-    let known = c.r-1.given in
-    let wide = c.wide in
-    let test = c.is_summary in
-    let summary = passed_summary _ _ (read_is _ _ _ read.ensures known.1) wide.result wide.ensures.0 s test.result
-    test.ensures c.if-not-is_summary.false in (
-      shape_sound _ _ (read_is _ _ _ read.ensures known.1),
+    let summary = passed_summary _ _ (read_is _ _ _ c.read-r.ensures c.in-Sound.is) c.wide.result c.wide.ensures.0 c.args.s c.is_summary.result
+    c.is_summary.ensures (rw c.if-not-is_summary.false) in (
+      shape_sound _ _ (read_is _ _ _ c.read-r.ensures c.in-Sound.is),
       summary,
-      difference_again s.counts.starts s.counts.ends summary.few c.difference.result c.difference.ensures
-          ∙ sym (net_held s.counts.ends s.counts.starts s.names s.values),
+      difference_again c.args.s.counts.starts c.args.s.counts.ends summary.few c.difference.result c.difference.ensures
+          ∙ sym (net_held c.args.s.counts.ends c.args.s.counts.starts c.args.s.names c.args.s.values),
     )

@@ -4,13 +4,12 @@ use mathlib.Core.List.{List}
 use mathlib.Core.Path.{◌≡◌, refl, ap, ◌∙◌}
 use Prim.Native.Nat.{ℕ, ◌+◌, ◌*◌}
 use native.Mathlib.Omega.{arith}
-use borrow.Author.Rules.{rules}
 use Rattle.entries.specs.Entries.{width, rule_width}
 use Rattle.entries.specs.declared.Body.TheVariants.{Templates, Schema, Endings}
 use Rattle.template.specs.Order.{bodies, shape_of}
 use Rattle.template.specs.declared.Shape.{Shape}
 use Rattle.template.specs.Layout.{first_body, rule_count, schema_count, ending_count, schema_start_of}
-use Rattle.template.proofs.FileLaws.{template_tests, schema_tests, ending_tests, body_of}
+use Rattle.template.proofs.FileLaws.{template_tests, schema_tests, body_of}
 use Rattle.entries.proofs.OrderLaws.{first_stays, first_passes}
 use Rattle.template.proofs.bodies_fault.Goals as goal
 

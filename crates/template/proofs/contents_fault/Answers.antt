@@ -1,6 +1,5 @@
 -- A chain of seven tests. The numbers in them are those at their places in the file, widened. Assumes nothing.
 use mathlib.Core.Path.{◌∙◌}
-use borrow.Author.Rules.{rules}
 use Rattle.template.specs.Order.{contents_tests}
 use Rattle.entries.proofs.OrderLaws.{ended, tested, first_chain}
 use Rattle.template.proofs.contents_fault.Goals as goal

@@ -1,5 +1,4 @@
 -- The part that `part` gives, the bytes before it counted. Assumes nothing.
-use borrow.Author.Rules.{rules}
 use Rattle.template.proofs.endings_behind_long.Goals as goal
 
 pub returns : goal.returns

@@ -1,5 +1,4 @@
 -- Both bytes stay below 256, so the sum fits 16 bits; widening changes no byte. Assumes nothing.
-use borrow.Author.Rules.{rules}
 use Rattle.template.specs.Layout.{half_at}
 use Rattle.template.proofs.half.Goals as goal
 

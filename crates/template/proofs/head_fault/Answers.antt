@@ -3,7 +3,6 @@
 use mathlib.Core.Path.{◌≡◌, refl, sym, ap, ◌∙◌}
 use Prim.Native.Nat.{ℕ}
 use borrow.Author.Tests.{le-leb, lt-leb}
-use borrow.Author.Rules.{rules}
 use Rattle.words.specs.Tags.{most_names}
 use Rattle.hedge.specs.Schema.{most_states}
 use Rattle.entries.specs.Tests.{first_fault}

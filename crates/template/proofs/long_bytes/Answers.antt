@@ -1,5 +1,4 @@
 -- So few rules stay below a million bytes, so nothing wraps. Assumes nothing.
-use native.Mathlib.Omega.{arith}
 use borrow.Author.Rules.{rules}
 use Rattle.template.proofs.long_bytes.Goals as goal
 

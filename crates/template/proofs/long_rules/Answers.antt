@@ -1,5 +1,4 @@
 -- The part that `part` gives, the bytes counted. Assumes nothing.
-use borrow.Author.Rules.{rules}
 use Rattle.template.proofs.long_rules.Goals as goal
 
 pub returns : goal.returns

@@ -1,5 +1,4 @@
 -- Where the part's end lies within the file the slice is the part, else both are empty. Assumes nothing.
-use borrow.Author.Rules.{rules}
 use Rattle.template.proofs.PartLaws.{part_inside, part_past}
 use Rattle.template.proofs.part.Goals as goal
 

@@ -1,6 +1,5 @@
 -- A bad reading holds the place; of a sound one the definition says 0. Assumes nothing.
 use mathlib.Core.Path.{sym, ap}
-use borrow.Author.Rules.{rules}
 use Rattle.template.specs.Order.{number}
 use Rattle.template.specs.declared.Reading.{Reading}
 use Rattle.template.proofs.place.Goals as goal

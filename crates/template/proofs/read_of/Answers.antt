@@ -2,15 +2,12 @@
 -- readable, contents without one say that the bodies end where the file does. Assumes nothing.
 use mathlib.Core.List.{List, ◌++◌}
 use mathlib.Core.Path.{◌≡◌, ◌∙◌, sym}
-use Prim.Native.Nat.{ℕ, ◌≤◌}
+use Prim.Native.Nat.{ℕ}
 use native.Mathlib.Omega.{arith}
-use borrow.Author.Rules.{rules}
-use lib.ListN.{length}
 use Rattle.entries.specs.Tests.{Test, first_fault}
 use Rattle.entries.specs.declared.Fault.{Fault}
 use Rattle.entries.specs.declared.Fault.TheVariants.{Nowhere}
 use Rattle.template.specs.Order.{bodies, head_tests, contents_tests, tests}
-use Rattle.template.specs.Layout.{bodies_end_of}
 use Rattle.template.proofs.FileLaws.{head_length, contents_length, answers_bad, answers_sound}
 use Rattle.entries.proofs.OrderLaws.{first_stays, first_passes}
 use Rattle.template.proofs.read_of.Goals as goal

@@ -1,5 +1,4 @@
 -- The part that `part` gives, the numbers widened. Assumes nothing.
-use borrow.Author.Rules.{rules}
 use Rattle.template.proofs.schema_rules.Goals as goal
 
 pub returns : goal.returns

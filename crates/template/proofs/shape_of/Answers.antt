@@ -1,5 +1,4 @@
 -- Each field is read at its place. Assumes nothing.
-use borrow.Author.Rules.{rules}
 use Rattle.template.proofs.shape_of.Goals as goal
 
 pub returns : goal.returns

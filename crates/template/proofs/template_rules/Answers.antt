@@ -1,5 +1,4 @@
 -- The part that `part` gives, the number widened. Assumes nothing.
-use borrow.Author.Rules.{rules}
 use Rattle.template.proofs.template_rules.Goals as goal
 
 pub returns : goal.returns
