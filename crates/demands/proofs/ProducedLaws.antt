@@ -23,23 +23,23 @@ module _ (f : List ℕ) (file : SoundFile f) where
   tag_spelled (start a) h = (a, start_byte (h, omega (arith, h, file.few_names)))
   tag_spelled (end a) h = (32 + a, end_byte (h, omega (arith, h, file.few_names)))
 
-  yields_written : {ss : List Symbol} {w : List Tag} {n : ℕ} → SymbolsBelow (name_count f) (nonterminals f) ss → Yields (RuleOf f) ss w n
+  yields_written : {ss : List Symbol} {w : List Tag} {n : ℕ} → Yields (RuleOf f) ss w n → SymbolsBelow (name_count f) (nonterminals f) ss
       → Written (name_count f) w
-  yields_written below yields_nothing = ([], spelled_none)
-  yields_written (here, below) (yields_tag {t = t} p) =
+  yields_written yields_nothing below = ([], spelled_none)
+  yields_written (yields_tag {t = t} p) (here, below) =
       let (b, s) = tag_spelled t here in
-      let (bytes, spelled) = yields_written below p in
+      let (bytes, spelled) = yields_written p below in
       (b ∷ bytes, spelled_more s spelled)
-  yields_written (here, below) (yields_tree {x = x} {rhs = rhs} rule p q) =
+  yields_written (yields_tree {x = x} {rhs = rhs} rule p q) (here, below) =
       let (_, _, inner) = gives_below f file x rhs rule in
-      let (u, s) = yields_written inner p in
-      let (v, r) = yields_written below q in
+      let (u, s) = yields_written p inner in
+      let (v, r) = yields_written q below in
       (_, spelled_append (name_count f) s r)
 
   -- a tree's nonterminal has a rule, so it is one of the file's
   tree_spelled : {x : ℕ} {w : List Tag} {n : ℕ} → Tree (RuleOf f) x w n → Written (name_count f) w
   tree_spelled (yields_tree {x = x} {rhs = rhs} rule p q) =
-      yields_written ((gives_below f file x rhs rule).0, tt) (yields_tree rule p q)
+      yields_written (yields_tree rule p q) ((gives_below f file x rhs rule).0, tt)
 
 pub tree_written : (f : List ℕ) → IsSound f → {x : ℕ} {w : List Tag} {n : ℕ} → Tree (RuleOf f) x w n → Written (name_count f) w
 tree_written f sound tree = tree_spelled f (sound_file f sound) tree

@@ -5,7 +5,6 @@ use mathlib.Core.Path.{◌≡◌, refl, ap, ◌∙◌, subst}
 use mathlib.Core.List.{List}
 use mathlib.Core.Logic.{◌↔◌}
 use Prim.Native.Nat.{ℕ}
-use native.Mathlib.Omega.{arith}
 use Rattle.pieces.specs.Pieces.{most_tags}
 use Rattle.template.specs.Layout.{name_count}
 use Rattle.template.specs.Order.{IsSound}
@@ -16,7 +15,6 @@ use Rattle.summary.specs.declared.FragmentAnswer.{FragmentAnswer}
 use Rattle.summary.specs.declared.FragmentAnswer.TheVariants as fragment
 use Rattle.summary.specs.declared.FragmentReply.{FragmentReply}
 use Rattle.summary.specs.declared.JoinAnswer.{JoinAnswer}
-use Rattle.summary.specs.declared.JoinAnswer.TheVariants as joined
 use Rattle.summary.specs.declared.JoinReply.{JoinReply}
 use Rattle.schema.specs.Schemas.{binoid_of}
 use Rattle.summary.specs.Fragments.{ReadUnder, FragmentAnswers, FragmentSays}

@@ -4,11 +4,10 @@
 -- the tag alone would leave. Assumes nothing.
 use mathlib.Core.Path.{◌≡◌, refl, sym, ap, ap₂, ◌∙◌}
 use mathlib.Core.Bool.{Bool, true, false, false≢true, ◌&&◌}
-use mathlib.Core.List.{List, [], ◌∷◌}
+use mathlib.Core.List.{List}
 use Prim.Native.Nat.{ℕ, ◌+◌, ◌≤◌, ◌<◌}
 use native.Mathlib.Omega.{arith}
 use lib.Dec.{ltb}
-use denote.Enum.Declared as enum
 use borrow.Author.Tests.{ltb-true, ltb-false}
 use Rattle.words.specs.Tags.{Tag, end}
 use Rattle.words.specs.Reader.{Limited, fits, differs, too_deep, then_tag_within, then_value_within}
@@ -21,7 +20,6 @@ use Rattle.form.specs.declared.Counts.{Counts}
 use Rattle.form.specs.declared.Summary.{Summary}
 use Rattle.form.specs.declared.Step.{Step}
 use Rattle.form.specs.declared.Step.TheVariants.{Kept, Mismatch, TooDeep}
-use Rattle.form.specs.contracts.Step.{the_type}
 use Rattle.form.proofs.HeldLaws.{stack_value, unused_value, value_over}
 
 -- what a step says

@@ -1,6 +1,6 @@
 -- What the program says is a decision: over a worktable that is long enough, a line never begins with 5, 8 or 9. With the largest budget 5 does
 -- not come (BudgetLaws of rounds), that budget is allowed, and the worktable is as long as it must be. Assumes nothing.
-use mathlib.Core.Path.{◌≡◌, refl}
+use mathlib.Core.Path.{◌≡◌}
 use mathlib.Core.List.{List}
 use Prim.Native.Nat.{ℕ, ◌≤◌}
 use native.Mathlib.Omega.{arith}

@@ -9,7 +9,7 @@ use mir.Syntax.{w64}
 use mir.Val.{Fits}
 use borrow.Author.Rules.{rules}
 use borrow.Author.Tests.{lt-ltb, le-ltb}
-use Rattle.line.specs.Decimal.{most_digits, digits, places_within, places}
+use Rattle.line.specs.Decimal.{most_digits, places_within, places}
 
 -- ---- how many digits
 

@@ -5,7 +5,7 @@ use mathlib.Core.List.{List, [], ◌∷◌, ◌++◌, append_assoc}
 use Prim.Native.Nat.{ℕ, zero, suc, ◌+◌, ◌-◌, ◌/◌, ◌%◌, ◌≤◌, ◌<◌}
 use native.Mathlib.Nat.{zero-sub, suc-sub-suc, sub-zero, add-zero}
 use native.Mathlib.Omega.{arith}
-use lib.ListN.{length, get_or, set, take, drop, replicate, length-append, length-set, length-replicate, take-append-drop}
+use lib.ListN.{length, set, take, drop, replicate, length-append, length-set, length-replicate, take-append-drop}
 use lib.Seq.{take-set-le, drop-set-lt, drop-cons, get_or-set_same, take_at, drop-append-add, drop-drop, length-take-le, append_snoc}
 use borrow.Author.Rules.{rules}
 use Rattle.line.specs.Decimal.{digit_zero, most_digits, digits, places, decimal}

@@ -1,7 +1,7 @@
 -- A page's reply from the reply of the same bytes as a fragment. A refusal is the same. Else the bytes spell a word whose reduced form the
 -- summary packs, and what the two tests at the end answer of that form is so of the word (schema/proofs/SchemaLaws.antt). Assumes nothing.
 use mathlib.Core.Path.{◌≡◌, ap, ◌∙◌, subst, refl}
-use mathlib.Core.List.{List, [], ◌∷◌}
+use mathlib.Core.List.{List}
 use Prim.Native.Nat.{ℕ}
 use borrow.Author.Rules.{rules}
 use Rattle.words.specs.Tags.{Tag}

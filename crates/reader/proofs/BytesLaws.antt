@@ -22,7 +22,7 @@ use Rattle.form.specs.Held.{stack_of, summary_of, form_of, last_of, Holds}
 use Rattle.form.specs.Steps.{held, after_tag}
 use Rattle.form.specs.declared.Counts.{Counts}
 use Rattle.form.specs.declared.Summary.{Summary}
-use Rattle.reader.specs.Reads.{Reason, no_tag, mismatch, too_many, whole, refused}
+use Rattle.reader.specs.Reads.{Reason, whole, refused}
 use Rattle.reader.specs.Reads.{Form, Refused, by_no_tag, AllReadable, Reads, reads_all, reads_to}
 use Rattle.reader.specs.Feeds.{Fed, Progressed}
 use Rattle.reader.specs.declared.Progress.{Progress}

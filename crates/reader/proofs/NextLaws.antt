@@ -6,7 +6,7 @@ use Prim.Native.Nat.{ℕ}
 use Rattle.words.specs.Tags.{Tag, Spells}
 use Rattle.words.specs.Binoid.{Binoid, Laws}
 use Rattle.words.specs.Reduced.{Stack}
-use Rattle.words.specs.Reader.{Outcome, reduced, Limited, fits, differs, too_deep, step, limit}
+use Rattle.words.specs.Reader.{Outcome, Limited, fits, differs, too_deep, step, limit}
 use Rattle.words.proofs.ReadLaws.{Told, told_step}
 use Rattle.words.proofs.LimitLaws.{Answers, limit_iff}
 use Rattle.reader.specs.Reads.{Spelled, mismatch, too_many, Form, Refused, by_mismatch, by_depth, AllReadable}

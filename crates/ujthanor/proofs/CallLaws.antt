@@ -2,7 +2,7 @@
 -- reply's summary has at most 16 tags, and that of a refusal is all zeros. Of the others: what is taken out of a reply that is answered 0,
 -- and what stands for it where the reply is another. Assumes nothing.
 use mathlib.Core.Path.{◌≡◌, refl, sym, ap, ◌∙◌}
-use mathlib.Core.List.{List, [], ◌∷◌}
+use mathlib.Core.List.{List}
 use Prim.Native.Nat.{ℕ, ◌≤◌, ◌<◌}
 use native.Mathlib.Omega.{arith}
 use lib.IntN.{ℤ, pos}
@@ -18,9 +18,6 @@ use Rattle.worktable.specs.Packed.{row_width}
 use Rattle.summary.specs.declared.FragmentAnswer.{FragmentAnswer}
 use Rattle.summary.specs.declared.FragmentAnswer.TheVariants as fragment
 use Rattle.summary.specs.declared.FragmentReply.{FragmentReply}
-use Rattle.summary.specs.contracts.FragmentAnswer as Fragment
-use Rattle.summary.specs.contracts.JoinAnswer as Joins
-use Rattle.summary.specs.contracts.DepthReply as Depth
 use Rattle.summary.proofs.DepthLaws.{no_depth}
 use Rattle.summary.specs.declared.DepthReply.{DepthReply}
 use Rattle.summary.specs.declared.DepthReply.TheVariants as depth
@@ -28,7 +25,6 @@ use Rattle.rounds.specs.declared.CheckReply.{CheckReply}
 use Rattle.rounds.specs.declared.CheckReply.TheVariants as check
 use Rattle.rounds.specs.Checks.{CheckSays}
 use Rattle.rounds.specs.Answers.{answer, number, images}
-use Rattle.rounds.specs.contracts.CheckReply as Check
 use Rattle.rounds.proofs.AnswerLaws.{no_images}
 use Rattle.summary.specs.declared.JoinAnswer.{JoinAnswer}
 use Rattle.summary.specs.declared.JoinAnswer.TheVariants as joined

@@ -1,7 +1,7 @@
 -- One outcome more in the walk (pairs/specs/Turns.antt, ProgressLaws.antt), for every marked nonterminal: a mismatch is an outcome of R; one
 -- that is too deep is noted; a form is noted for each marked nonterminal in turn (NotedLaws.antt). Assumes nothing.
 use mathlib.Core.Path.{◌≡◌, refl, sym, ◌∙◌}
-use mathlib.Core.Bool.{true, false, false≢true}
+use mathlib.Core.Bool.{true, false≢true}
 use mathlib.Core.List.{List}
 use mathlib.Core.Logic.{◌⊎◌, inl, inr, ⊎_elim}
 use Prim.Native.Nat.{ℕ, suc, ◌≤◌, ◌<◌}
@@ -15,7 +15,7 @@ use Rattle.pieces.specs.declared.Piece.{Piece}
 use Rattle.pieces.specs.Pieces.{most_tags}
 use Rattle.worktable.specs.Packed.{table_long}
 use Rattle.pairs.specs.Books.{Book}
-use Rattle.pairs.specs.Turns.{after_deep, stands}
+use Rattle.pairs.specs.Turns.{after_deep}
 use Rattle.pairs.specs.Turns.{FormsNoted, forms_none, forms_other, forms_more, OutcomeNoted, mismatches, is_deep, is_form}
 use Rattle.pairs.specs.declared.Tally.{Tally}
 use Rattle.pairs.specs.declared.Turn.{Turn}

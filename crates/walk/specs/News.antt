@@ -1,6 +1,6 @@
 -- What a round passes over. A slot has a new choice in the first round, and later only where its nonterminal has a row that the round before
 -- found; a rule that is walked for no nonterminal has none.
-use Rattle.std.specs.Prelude.{◌≡◌, Bool, true, false, ◌||◌, List, ℕ, zero, suc, ◌+◌, ◌-◌, ◌%◌, ◌≤◌, ◌<◌, get_or}
+use Rattle.std.specs.Prelude.{◌≡◌, Bool, ◌||◌, List, ℕ, zero, suc, ◌+◌, ◌-◌, ◌%◌, ◌≤◌, ◌<◌, get_or}
 use Rattle.numbers.specs.Bits.{bit}
 use Rattle.useful.specs.Marks.{with_mark}
 use Rattle.worktable.specs.Packed.{nonterminal_in}

@@ -1,7 +1,7 @@
 -- One round's walk: the rules, and for each the pairs of images on its right side. Rules, section 8: only a mismatch ends it at once.
 -- Invalid pages, strings that are too deep and images past 256 are noted, and the walk goes on. The book's rows
 -- are the images before the round; what the walk finds new goes behind them.
-use Rattle.std.specs.Prelude.{◌≡◌, Bool, true, false, List, ℕ, ◌≤◌, ◌<◌, length, drop}
+use Rattle.std.specs.Prelude.{◌≡◌, true, false, List, ℕ, ◌≤◌, ◌<◌, length, drop}
 use Rattle.words.specs.Reduced.{Stack, tags, GoodStack}
 use Rattle.words.specs.Reader.{Outcome, reduced, differ}
 use Rattle.lore.specs.Lore.{states_in}
@@ -16,7 +16,6 @@ use Rattle.trees.specs.Results.{Result}
 use Rattle.worktable.specs.Packed.{most_images, table_long, PairRow}
 use Rattle.pairs.specs.Books.{Book, book_of, table_row, Tabled}
 use Rattle.pairs.specs.declared.Notes.{Notes}
-use Rattle.pairs.specs.declared.Tally.{Tally}
 use Rattle.walk.specs.declared.Round.{Round}
 use Rattle.walk.specs.declared.Walk.{Walk}
 use Rattle.walk.specs.declared.Walk.TheVariants.{Stopped, Went}

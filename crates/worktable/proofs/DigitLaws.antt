@@ -1,7 +1,7 @@
 -- Numbers as a list, and in one entry, w bits each (specs/Packed.antt); and the turns of the loops that make them, in the words in which the
 -- code has them, for `search digits`. Every loop goes number by number; the entry of n numbers is below 2 to the w * n, so none is lost.
 -- Assumes nothing.
-use mathlib.Core.Path.{◌≡◌, refl, sym, ap, ◌∙◌}
+use mathlib.Core.Path.{◌≡◌, refl, ap, ◌∙◌}
 use mathlib.Core.List.{List, [], ◌∷◌, ◌++◌, append_assoc, append-nil}
 use Prim.Native.Nat.{ℕ, zero, suc, ◌+◌, ◌-◌, ◌*◌, ◌/◌, ◌%◌, ◌^◌, ◌≤◌, ◌<◌}
 use native.Mathlib.Numerals.{add-one}

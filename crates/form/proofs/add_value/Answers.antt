@@ -1,5 +1,4 @@
 -- The composition is of the piece at place n and the value, and it is written there. Assumes nothing.
-use borrow.Author.Rules.{rules}
 use Rattle.form.proofs.add_value.Goals as goal
 
 pub returns : goal.returns

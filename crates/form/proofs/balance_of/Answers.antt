@@ -1,5 +1,4 @@
 -- One test of the number of tags: the laws of the balance, in EndingLaws. Assumes nothing.
-use borrow.Author.Rules.{rules}
 use Rattle.form.proofs.EndingLaws.{ending_laws}
 use Rattle.form.proofs.balance_of.Goals as goal
 

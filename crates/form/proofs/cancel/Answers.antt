@@ -1,7 +1,6 @@
 -- The innermost start stands at the last place. Where its name is another than the end's, the two names are the answer; else both tags
 -- go, and the piece that `closed_between` gives stands for all from the piece before the start on, the word behind the end with it. Each
 -- return is a law of TagLaws. Assumes nothing.
-use borrow.Author.Rules.{rules}
 use Rattle.form.proofs.TagLaws.{turn_laws}
 use Rattle.form.proofs.cancel.Goals as goal
 

@@ -1,5 +1,4 @@
 -- The element around the inner word comes from pieces' element, and its follow puts it behind the word before. Assumes nothing.
-use borrow.Author.Rules.{rules}
 use Rattle.form.proofs.closed.Goals as goal
 
 pub returns : goal.returns

@@ -1,6 +1,5 @@
 -- The balance says whether a tag is left; where none is, the form is empty, and the test of its piece decides. Each return is a law of
 -- EndingLaws. Assumes nothing.
-use borrow.Author.Rules.{rules}
 use Rattle.form.proofs.EndingLaws.{ending_laws}
 use Rattle.form.proofs.ending_of.Goals as goal
 

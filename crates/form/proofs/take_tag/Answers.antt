@@ -1,5 +1,4 @@
 -- Three writes, as the contract has them. Assumes nothing.
-use borrow.Author.Rules.{rules}
 use Rattle.form.proofs.take_tag.Goals as goal
 
 pub returns : goal.returns

@@ -1,10 +1,6 @@
 -- After the first piece and k turns the arrays hold what `turned` says of k tags, from the state where the loop begins; a turn leads to
 -- k + 1, a refusal is the answer, and after all tags it is the join (FormLaws). Assumes nothing.
-use mathlib.Core.Path.{◌≡◌}
-use Prim.Native.Nat.{◌≤◌, ◌-◌}
-use Rattle.form.specs.Held.{summary_of, Holds}
-use Rattle.form.specs.Steps.{held}
-use Rattle.form.proofs.FormLaws.{turned, turned_kept, form_laws}
+use Rattle.form.proofs.FormLaws.{turned_kept, form_laws}
 use Rattle.form.proofs.then_form.Goals as goal
 
 pub overflow_add-c : goal.overflow_add-c

@@ -2,7 +2,7 @@ use mathlib.Core.Path.{◌≡◌}
 use Prim.Native.Nat.{◌≤◌, ◌-◌}
 use Rattle.form.specs.Held.{summary_of, Holds}
 use Rattle.form.specs.Steps.{held}
-use Rattle.form.proofs.FormLaws.{turned, turned_kept, form_laws}
+use Rattle.form.proofs.FormLaws.{turned}
 use Rattle.form.proofs.then_form.Given as goal
 
 abbrev pub invariant-loop-k : goal.invariant-loop-k

@@ -1,6 +1,5 @@
 -- An end meets the innermost start, where there is one. Every other tag goes behind those that stand, or is one too many. Each return
 -- is a law of TagLaws at what the tests before it say. Assumes nothing.
-use borrow.Author.Rules.{rules}
 use Rattle.form.proofs.TagLaws.{tag_laws}
 use Rattle.form.proofs.then_tag.Goals as goal
 

@@ -1,6 +1,5 @@
 -- An end that meets a start is `cancel`'s. Every other tag goes behind those that stand, with the word's piece behind it, or is one too
 -- many. Each return is a law of TurnLaws at the law of TagLaws for the tag alone. Assumes nothing.
-use borrow.Author.Rules.{rules}
 use Rattle.form.proofs.TagLaws.{turn_laws}
 use Rattle.form.proofs.turn.Goals as goal
 

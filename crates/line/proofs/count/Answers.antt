@@ -1,7 +1,4 @@
 -- With each turn one digit more is found and the rest has one fewer (DecimalLaws). Assumes nothing.
-use mathlib.Core.Path.{◌≡◌}
-use Prim.Native.Nat.{◌+◌}
-use Rattle.line.specs.Decimal.{places}
 use Rattle.line.proofs.DecimalLaws.{counts}
 use Rattle.line.proofs.count.Goals as goal
 

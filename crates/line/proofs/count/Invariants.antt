@@ -1,7 +1,6 @@
 use mathlib.Core.Path.{◌≡◌}
 use Prim.Native.Nat.{◌+◌}
 use Rattle.line.specs.Decimal.{places}
-use Rattle.line.proofs.DecimalLaws.{counts}
 use Rattle.line.proofs.count.Given as goal
 
 abbrev pub invariant-loop-rest : goal.invariant-loop-rest

@@ -1,9 +1,4 @@
 -- What is still to be written, written over what is there, gives the same at each turn (LineLaws). Assumes nothing.
-use mathlib.Core.Path.{◌≡◌}
-use Prim.Native.Nat.{◌-◌, ◌≤◌}
-use lib.ListN.{length}
-use Rattle.line.specs.Decimal.{digits}
-use Rattle.line.specs.Lines.{over_from}
 use Rattle.line.proofs.LineLaws.{spells}
 use Rattle.line.proofs.put_digits.Goals as goal
 

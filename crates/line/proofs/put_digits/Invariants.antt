@@ -3,7 +3,6 @@ use Prim.Native.Nat.{◌-◌, ◌≤◌}
 use lib.ListN.{length}
 use Rattle.line.specs.Decimal.{digits}
 use Rattle.line.specs.Lines.{over_from}
-use Rattle.line.proofs.LineLaws.{spells}
 use Rattle.line.proofs.put_digits.Given as goal
 
 abbrev pub invariant-loop-i : goal.invariant-loop-i

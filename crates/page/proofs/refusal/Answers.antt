@@ -1,6 +1,5 @@
 -- Each arm of the match is one clause of `refusal`. Assumes nothing.
 use mathlib.Core.Path.{sym, ap}
-use borrow.Author.Rules.{rules}
 use Rattle.summary.specs.declared.FragmentAnswer.{FragmentAnswer}
 use Rattle.page.specs.Pages.{refusal}
 use Rattle.page.proofs.refusal.Goals as goal

@@ -1,5 +1,4 @@
 -- The form has as many tags as its counts say, so the test of the counts and the last piece is the test of the form. Assumes nothing.
-use borrow.Author.Rules.{rules}
 use Rattle.page.proofs.PageLaws.{tested_is}
 use Rattle.page.proofs.tested.Goals as goal
 

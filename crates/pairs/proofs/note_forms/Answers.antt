@@ -1,12 +1,5 @@
 -- Before x the forms of the marked nonterminals below it are noted, the marks have been moved down by x, and there are at most 256 rows
 -- (FormsLaws). Assumes nothing.
-use mathlib.Core.Path.{◌≡◌}
-use mathlib.Core.Logic.{⊎_elim}
-use Prim.Native.Nat.{◌/◌, ◌^◌, ◌≤◌}
-use lib.ListN.{length}
-use Rattle.form.specs.Held.{summary_of, form_of, last_of}
-use Rattle.worktable.specs.Packed.{most_images}
-use Rattle.pairs.specs.Turns.{FormsNoted}
 use Rattle.pairs.proofs.FormsLaws.{forms_laws, forms_next}
 use Rattle.pairs.proofs.note_forms.Goals as goal
 use Rattle.pairs.proofs.note_forms.Goals.{then-rest-eq1, else-rest-eq1}

@@ -1,11 +1,9 @@
 use mathlib.Core.Path.{◌≡◌}
-use mathlib.Core.Logic.{⊎_elim}
 use Prim.Native.Nat.{◌/◌, ◌^◌, ◌≤◌}
 use lib.ListN.{length}
 use Rattle.form.specs.Held.{summary_of, form_of, last_of}
 use Rattle.worktable.specs.Packed.{most_images}
 use Rattle.pairs.specs.Turns.{FormsNoted}
-use Rattle.pairs.proofs.FormsLaws.{forms_laws, forms_next}
 use Rattle.pairs.proofs.note_forms.Given as goal
 
 abbrev pub invariant-loop-rest : goal.invariant-loop-rest

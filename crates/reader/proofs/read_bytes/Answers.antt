@@ -1,8 +1,6 @@
 -- At place i the arrays hold the form of the bytes before it, all of them readable (BytesLaws.SoFar). The byte there keeps that at
 -- i + 1, or its step is a refusal, which is handed on as it is; at the end the form is that of all the bytes. Assumes nothing.
-use Prim.Native.Nat.{◌-◌, ◌≤◌}
-use lib.ListN.{length}
-use Rattle.reader.proofs.BytesLaws.{SoFar, readings}
+use Rattle.reader.proofs.BytesLaws.{readings}
 use Rattle.reader.proofs.read_bytes.Goals as goal
 
 pub counted-c-requires : goal.counted-c-requires

@@ -1,6 +1,6 @@
 use Prim.Native.Nat.{◌-◌, ◌≤◌}
 use lib.ListN.{length}
-use Rattle.reader.proofs.BytesLaws.{SoFar, readings}
+use Rattle.reader.proofs.BytesLaws.{SoFar}
 use Rattle.reader.proofs.read_bytes.Given as goal
 
 abbrev pub invariant-loop-i : goal.invariant-loop-i

@@ -1,6 +1,5 @@
 -- The tests come in the order of the answers 9, 8 and 7; what is left is a sound file (check_sound). Assumes nothing.
 use mathlib.Core.Path.{refl, sym, ◌∙◌}
-use borrow.Author.Rules.{rules}
 use Rattle.template.proofs.ShapeLaws.{bad_at}
 use Rattle.rounds.proofs.check.Goals as goal
 

@@ -1,7 +1,6 @@
 -- The start is marked exactly where it derives some page, and what is reached is then useful (PartLaws); so the shares are found, and
 -- they are those of the file's rules. Assumes nothing.
 use mathlib.Core.Path.{refl}
-use borrow.Author.Rules.{rules}
 use Rattle.template.proofs.ShapeLaws.{shape_sound}
 use Rattle.shares.specs.Shares.{Shares}
 use Rattle.rounds.proofs.PartLaws.{of_file, part_in_range, part_few, marked_page, unmarked_no_page, reached_useful}

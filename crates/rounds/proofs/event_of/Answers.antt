@@ -1,6 +1,5 @@
 -- The walk stopped, or its tally is named by the pattern; the tests then say which note comes first. Assumes nothing.
 use mathlib.Core.Path.{refl}
-use borrow.Author.Rules.{rules}
 use Rattle.rounds.proofs.event_of.Goals as goal
 
 pub returns-in_default : goal.returns-in_default

@@ -1,5 +1,4 @@
 -- Of a pass the images are taken out; any other reply has none (AnswerLaws). Assumes nothing.
-use borrow.Author.Rules.{rules}
 use Rattle.rounds.proofs.AnswerLaws.{no_images}
 use Rattle.rounds.proofs.images.Goals as goal
 

@@ -1,5 +1,4 @@
 -- Each arm of the match is one clause of `reply_of`. Assumes nothing.
-use borrow.Author.Rules.{rules}
 use Rattle.rounds.proofs.reply_of.Goals as goal
 
 pub returns-in-Mismatch : goal.returns-in-Mismatch

@@ -4,7 +4,6 @@ use Prim.Native.Nat.{◌%◌}
 use native.Mathlib.Omega.{arith}
 use native.Mathlib.Numerals.{add-one}
 use lib.Seq.{lt-length-set}
-use borrow.Author.Rules.{rules}
 use Rattle.save.proofs.put_half.Goals as goal
 
 pub bounds-out-at-2 : goal.bounds-out-at-2

@@ -1,6 +1,5 @@
 -- The numbers, then six numbers of 16 bits, each behind the one before it; `head_laid` puts the stores together. Offsets stay below
 -- 65,536 since the counts are within their limits. Assumes nothing.
-use borrow.Author.Rules.{rules}
 use Rattle.save.proofs.LayLaws.{head_laid}
 use Rattle.save.proofs.put_head.Goals as goal
 

@@ -4,7 +4,6 @@ use Prim.Native.Nat.{◌<◌}
 use native.Mathlib.Omega.{arith}
 use lib.ListN.{length}
 use lib.Seq.{lt-length-sets}
-use borrow.Author.Rules.{rules}
 use Rattle.save.proofs.put_numbers.Goals as goal
 
 pub bounds-out-1 : goal.bounds-out-1

@@ -1,7 +1,4 @@
 -- After i turns the table has the marks of the rules below i (GatherLaws). Assumes nothing.
-use Prim.Native.Nat.{◌≤◌, ◌-◌, ◌/◌}
-use lib.ListN.{length}
-use Rattle.shares.specs.Shares.{SharesBelow}
 use Rattle.shares.proofs.GatherLaws.{sharing}
 use Rattle.shares.proofs.share.Goals as goal
 

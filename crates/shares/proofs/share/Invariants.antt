@@ -1,7 +1,6 @@
 use Prim.Native.Nat.{◌≤◌, ◌-◌, ◌/◌}
 use lib.ListN.{length}
 use Rattle.shares.specs.Shares.{SharesBelow}
-use Rattle.shares.proofs.GatherLaws.{sharing}
 use Rattle.shares.proofs.share.Given as goal
 
 abbrev pub invariant-loop-i : goal.invariant-loop-i

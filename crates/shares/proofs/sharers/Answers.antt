@@ -1,9 +1,6 @@
 -- After h turns the marks are those of the useful rules below h with the right side of rule i (GatherLaws). Assumes nothing.
-use mathlib.Core.Logic.{⊎_elim}
-use Prim.Native.Nat.{◌≤◌, ◌-◌, ◌/◌}
-use lib.ListN.{length}
 use borrow.Author.Rules.{rules}
-use Rattle.shares.proofs.GatherLaws.{Gathered, gathered_more, left_wide, sharing}
+use Rattle.shares.proofs.GatherLaws.{gathered_more, left_wide, sharing}
 use Rattle.shares.proofs.sharers.Goals as goal
 use Rattle.shares.proofs.sharers.Goals.{then-is_sharer+else-h-i, else-is_sharer}
 

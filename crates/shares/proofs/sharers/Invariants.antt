@@ -1,8 +1,6 @@
-use mathlib.Core.Logic.{⊎_elim}
 use Prim.Native.Nat.{◌≤◌, ◌-◌, ◌/◌}
 use lib.ListN.{length}
-use borrow.Author.Rules.{rules}
-use Rattle.shares.proofs.GatherLaws.{Gathered, gathered_more, left_wide, sharing}
+use Rattle.shares.proofs.GatherLaws.{Gathered}
 use Rattle.shares.proofs.sharers.Given as goal
 
 abbrev pub invariant-loop-h : goal.invariant-loop-h

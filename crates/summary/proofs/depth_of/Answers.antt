@@ -1,10 +1,5 @@
 -- The depth that the reply holds was made as a number of 32 bits, so it is read back as it is; a reply that holds none has depth 0
 -- (DepthLaws). Assumes nothing.
-use mathlib.Core.Path.{◌≡◌, sym, ap, ◌∙◌}
-use borrow.Author.Rules.{rules}
-use mir.Facts.{to_z-of_z}
-use Rattle.summary.specs.declared.DepthReply.{DepthReply}
-use Rattle.summary.specs.Answers.{net_depth}
 use Rattle.summary.proofs.DepthLaws.{no_depth}
 use Rattle.summary.proofs.depth_of.Goals as goal
 

@@ -1,5 +1,4 @@
 -- The counts are at most 16, so their difference is a number of 32 bits. Assumes nothing.
-use borrow.Author.Rules.{rules}
 use Rattle.summary.proofs.SignedLaws.{difference_fits, difference_read}
 use Rattle.summary.proofs.difference.Goals as goal
 

@@ -1,6 +1,5 @@
 -- A bad file is refused with its place. Of a sound one the numbers are the file's, so each test says whether a struct is a summary under
 -- it; two summaries are joined. Assumes nothing.
-use borrow.Author.Rules.{rules}
 use Rattle.template.proofs.ShapeLaws.{read_is, bad_at, shape_sound, states_few}
 use Rattle.summary.proofs.ShapeLaws.{passed_summary, failed_summary}
 use Rattle.summary.proofs.JoinedLaws.{join_bad, join_no_left, join_no_right}

@@ -1,7 +1,4 @@
 -- The turn at k adds the test of name k to that of the names before it. Assumes nothing.
-use mathlib.Core.Path.{◌≡◌}
-use Prim.Native.Nat.{◌≤◌, ◌-◌}
-use Rattle.summary.specs.Packing.{every, name_fits}
 use Rattle.summary.proofs.FitLaws.{fits_turns}
 use Rattle.summary.proofs.names_fit.Goals as goal
 

@@ -1,7 +1,6 @@
 use mathlib.Core.Path.{◌≡◌}
 use Prim.Native.Nat.{◌≤◌, ◌-◌}
 use Rattle.summary.specs.Packing.{every, name_fits}
-use Rattle.summary.proofs.FitLaws.{fits_turns}
 use Rattle.summary.proofs.names_fit.Given as goal
 
 abbrev pub invariant-loop-k : goal.invariant-loop-k

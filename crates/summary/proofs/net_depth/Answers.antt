@@ -1,7 +1,6 @@
 -- A bad file is refused with its place. Of a sound one the numbers are the file's, so the test says whether the struct is a summary
 -- under it; a summary's counts give its net depth. Assumes nothing.
 use mathlib.Core.Path.{◌∙◌, sym}
-use borrow.Author.Rules.{rules}
 use Rattle.form.proofs.HeldLaws.{net_held}
 use Rattle.template.proofs.ShapeLaws.{read_is, bad_at, shape_sound, states_few}
 use Rattle.summary.proofs.ShapeLaws.{passed_summary, failed_summary}

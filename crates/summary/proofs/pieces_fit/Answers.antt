@@ -1,8 +1,4 @@
 -- The turn at k adds the test of piece k to that of the pieces before it. Assumes nothing.
-use mathlib.Core.Path.{◌≡◌}
-use Prim.Native.Nat.{◌≤◌, ◌-◌}
-use Rattle.pieces.specs.Pieces.{most_pieces}
-use Rattle.summary.specs.Packing.{every, piece_fits}
 use Rattle.summary.proofs.FitLaws.{fits_turns}
 use Rattle.summary.proofs.pieces_fit.Goals as goal
 

@@ -2,7 +2,6 @@ use mathlib.Core.Path.{◌≡◌}
 use Prim.Native.Nat.{◌≤◌, ◌-◌}
 use Rattle.pieces.specs.Pieces.{most_pieces}
 use Rattle.summary.specs.Packing.{every, piece_fits}
-use Rattle.summary.proofs.FitLaws.{fits_turns}
 use Rattle.summary.proofs.pieces_fit.Given as goal
 
 abbrev pub invariant-loop-k : goal.invariant-loop-k

@@ -1,5 +1,4 @@
 -- The struct is written out as it is defined. Assumes nothing.
-use borrow.Author.Rules.{rules}
 use Rattle.summary.specs.Packing.{zeros}
 use Rattle.summary.proofs.zeros.Goals as goal
 

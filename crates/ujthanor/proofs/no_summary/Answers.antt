@@ -1,5 +1,4 @@
 -- Counts, names and pieces are as they were made, so the struct of them is that of the contract by congruence. Assumes nothing.
-use borrow.Author.Rules.{rules}
 use Rattle.ujthanor.proofs.no_summary.Goals as goal
 
 pub returns : goal.returns

@@ -1,9 +1,4 @@
 -- After i turns the steps of the i first rules are done. Assumes nothing.
-use Prim.Native.Nat.{◌≤◌, ◌-◌, ◌/◌}
-use lib.ListN.{length}
-use Rattle.template.specs.Grammar.{Gives}
-use Rattle.trees.specs.Trees.{Productive}
-use Rattle.useful.specs.Marks.{Passed, KeptBelow, KeptUp}
 use Rattle.useful.proofs.CloseLaws.{passes}
 use Rattle.useful.proofs.pass_up.Goals as goal
 

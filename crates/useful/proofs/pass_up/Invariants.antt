@@ -3,7 +3,6 @@ use lib.ListN.{length}
 use Rattle.template.specs.Grammar.{Gives}
 use Rattle.trees.specs.Trees.{Productive}
 use Rattle.useful.specs.Marks.{Passed, KeptBelow, KeptUp}
-use Rattle.useful.proofs.CloseLaws.{passes}
 use Rattle.useful.proofs.pass_up.Given as goal
 
 abbrev pub invariant-loop-i : goal.invariant-loop-i

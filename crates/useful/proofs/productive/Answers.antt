@@ -1,8 +1,4 @@
 -- Each mark stays justified, and a pass that adds none has kept every rule. A pass that adds some makes the number larger. Assumes nothing.
-use Prim.Native.Nat.{◌-◌}
-use Rattle.template.specs.Grammar.{Gives}
-use Rattle.trees.specs.Trees.{Productive}
-use Rattle.useful.specs.Marks.{Justified}
 use Rattle.useful.proofs.CloseLaws.{passes}
 use Rattle.useful.proofs.productive.Goals as goal
 

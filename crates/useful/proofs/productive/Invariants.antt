@@ -2,7 +2,6 @@ use Prim.Native.Nat.{◌-◌}
 use Rattle.template.specs.Grammar.{Gives}
 use Rattle.trees.specs.Trees.{Productive}
 use Rattle.useful.specs.Marks.{Justified}
-use Rattle.useful.proofs.CloseLaws.{passes}
 use Rattle.useful.proofs.productive.Given as goal
 
 abbrev pub invariant-loop-m : goal.invariant-loop-m

@@ -1,12 +1,5 @@
 -- The start stays marked and each mark justified, and a pass that adds none has kept every rule. A pass that adds some makes the
 -- number larger. Assumes nothing.
-use mathlib.Core.Path.{◌≡◌}
-use mathlib.Core.Bool.{true}
-use Prim.Native.Nat.{◌-◌}
-use Rattle.numbers.specs.Bits.{bit}
-use Rattle.template.specs.Grammar.{Gives}
-use Rattle.trees.specs.Trees.{Reached}
-use Rattle.useful.specs.Marks.{Justified}
 use Rattle.useful.proofs.CloseLaws.{passes}
 use Rattle.useful.proofs.reached.Goals as goal
 

@@ -5,7 +5,6 @@ use Rattle.numbers.specs.Bits.{bit}
 use Rattle.template.specs.Grammar.{Gives}
 use Rattle.trees.specs.Trees.{Reached}
 use Rattle.useful.specs.Marks.{Justified}
-use Rattle.useful.proofs.CloseLaws.{passes}
 use Rattle.useful.proofs.reached.Given as goal
 
 abbrev pub invariant-loop-m : goal.invariant-loop-m

@@ -1,6 +1,5 @@
 -- The numbers of a sound reading are taken out; a bad one has none. Assumes nothing.
 use mathlib.Core.Path.{sym, ap, ◌∙◌}
-use borrow.Author.Rules.{rules}
 use Rattle.template.specs.declared.Reading.{Reading}
 use Rattle.view.specs.Views.{counted}
 use Rattle.view.proofs.counts.Goals as goal

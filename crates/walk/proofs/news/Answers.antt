@@ -1,7 +1,4 @@
 -- At row k the rows from the a-th up to the k-th are marked (NewsLaws). Assumes nothing.
-use mathlib.Core.Path.{◌≡◌}
-use Prim.Native.Nat.{◌≤◌, ◌-◌}
-use Rattle.walk.specs.News.{news}
 use Rattle.walk.proofs.NewsLaws.{news_laws}
 use Rattle.walk.proofs.news.Goals as goal
 

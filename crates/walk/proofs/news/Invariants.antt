@@ -1,7 +1,6 @@
 use mathlib.Core.Path.{◌≡◌}
 use Prim.Native.Nat.{◌≤◌, ◌-◌}
 use Rattle.walk.specs.News.{news}
-use Rattle.walk.proofs.NewsLaws.{news_laws}
 use Rattle.walk.proofs.news.Given as goal
 
 abbrev pub invariant-loop-k : goal.invariant-loop-k

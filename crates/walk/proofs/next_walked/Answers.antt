@@ -1,6 +1,4 @@
 -- The rules from the i-th up to the k-th are passed over; one that is walked ends the search, and so does the n-th. Assumes nothing.
-use Prim.Native.Nat.{◌-◌, ◌≤◌}
-use Rattle.walk.specs.News.{PassedOver}
 use Rattle.walk.proofs.NewsLaws.{news_laws}
 use Rattle.walk.proofs.next_walked.Goals as goal
 

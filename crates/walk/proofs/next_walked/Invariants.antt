@@ -1,6 +1,5 @@
 use Prim.Native.Nat.{◌-◌, ◌≤◌}
 use Rattle.walk.specs.News.{PassedOver}
-use Rattle.walk.proofs.NewsLaws.{news_laws}
 use Rattle.walk.proofs.next_walked.Given as goal
 
 abbrev pub invariant-loop-k : goal.invariant-loop-k
