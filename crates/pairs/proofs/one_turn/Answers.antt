@@ -7,9 +7,6 @@ use Rattle.pairs.proofs.one_turn.Goals as goal
 pub fits-requires : goal.fits-requires
 fits-requires c = search one_turn_laws
 
-pub shape_of-table-then-not-fits : goal.shape_of-table-then-not-fits
-shape_of-table-then-not-fits c = search one_turn_laws
-
 pub returns-then-not-fits : goal.returns-then-not-fits
 returns-then-not-fits c = search one_turn_laws
 
@@ -25,9 +22,6 @@ enum_known-b c = search one_turn_laws
 pub enum_told-1 : goal.enum_told-1
 enum_told-1 c = search one_turn_laws
 
-pub shape_of-table-in_default : goal.shape_of-table-in_default
-shape_of-table-in_default c = search one_turn_laws
-
 pub returns-in_default : goal.returns-in_default
 returns-in_default c = search one_turn_laws
 
@@ -39,9 +33,6 @@ enum_known-a c = search one_turn_laws
 
 pub enum_told-in_default-a : goal.enum_told-in_default-a
 enum_told-in_default-a c = search one_turn_laws
-
-pub shape_of-table-in_default-a : goal.shape_of-table-in_default-a
-shape_of-table-in_default-a c = search one_turn_laws
 
 pub returns-in_default-a : goal.returns-in_default-a
 returns-in_default-a c = search (turn_no_left, c.load-a.ensures, c.in_default-a.is, c.empty-empty.ensures)
@@ -69,9 +60,6 @@ enum_told-in-TooDeep c = search one_turn_laws
 pub noted_deep-requires : goal.noted_deep-requires
 noted_deep-requires c = search one_turn_laws
 
-pub shape_of-table-in-Kept : goal.shape_of-table-in-Kept
-shape_of-table-in-Kept c = search one_turn_laws
-
 pub returns-in-Kept : goal.returns-in-Kept
 returns-in-Kept c =
     search (
@@ -86,9 +74,6 @@ returns-in-Kept c =
       c.note_forms-tally.ensures,
     )
 
-pub shape_of-table-in-Mismatch : goal.shape_of-table-in-Mismatch
-shape_of-table-in-Mismatch c = search one_turn_laws
-
 pub returns-in-Mismatch : goal.returns-in-Mismatch
 returns-in-Mismatch c =
     search (
@@ -101,9 +86,6 @@ returns-in-Mismatch c =
       c.then_form-t.ensures,
       c.in-Mismatch.is,
     )
-
-pub shape_of-table-in-TooDeep : goal.shape_of-table-in-TooDeep
-shape_of-table-in-TooDeep c = search one_turn_laws
 
 pub returns-in-TooDeep : goal.returns-in-TooDeep
 returns-in-TooDeep c =
