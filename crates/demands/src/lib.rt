@@ -1,5 +1,5 @@
 // Each public call with the demands as its contract; the body is the call. None has a `requires`, so each ends and answers on any input.
-// First the calls in Rattle, then those that C and Rust link.
+// First the calls in Rattle, then those of crate ujthanor, which ujthanor_c exports to C and Rust with the same promises.
 #![tactic(auto)]
 
 ghost use Rattle.summary.specs.Answers.{fragment_answer, fragment_number, join_answer, join_number, depth_answer, depth_number, net_depth};

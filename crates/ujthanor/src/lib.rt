@@ -1,5 +1,6 @@
-// What C and Rust call (crate ujthanor_c exports it): numbers and slices only. Each call hands on to the crate that makes its promise, and lays the reply out in numbers
-// (Rules, section 9). A summary is a row in the worktable's layout, its nonterminal part 0 (section 10). Nothing is asked of what is lent.
+// What C and Rust call, by the exports of crate ujthanor_c: numbers and slices only. Each call hands on to the crate that makes its promise, and
+// lays the reply out in numbers (Rules, section 9). A summary is a row in the worktable's layout, its nonterminal part 0 (section 10). Nothing
+// is asked of what is lent.
 #![tactic(auto)]
 
 ghost use Rattle.std.specs.Prelude.{◌≡◌, ◌≤◌, length};
