@@ -5,6 +5,8 @@
 // the cases.
 #![tactic(auto)]
 
+ghost use Rattle.std.specs.Prelude.{◌≤◌, length};
+
 mod checks;
 mod files;
 mod print;
@@ -12,7 +14,7 @@ mod splits;
 mod summaries;
 
 use std::io;
-use std::io::Read;
+use std::io::{ErrorKind, Read};
 
 // How many bytes of the input are looked at.
 const READ: usize = 65536;
@@ -97,9 +99,30 @@ fn all(rt: &impl Print, input: &[u8]) -> io::Result<()> {
     Ok(())
 }
 
+// Reads to the end of the input, or until the buffer is full. A read that fails ends the input.
+fn read_full<R: Read>(reader: &mut R, buffer: &mut [u8]) -> usize
+    ensures { result ≤ length buffer.old }
+{
+    let mut at = 0;
+    for _ in 0..u64::MAX {
+        if at == buffer.len() {
+            return at;
+        }
+        match reader.read(&mut buffer[at..]) {
+            Ok(0) => return at,
+            Ok(n) => at += n,
+            Err(e) => {
+                if e.kind() != ErrorKind::Interrupted {
+                    return at;
+                }
+            }
+        }
+    }
+    at
+}
+
 fn main(rt: HostRuntime) -> io::Result<()> {
-    let mut input = Vec::new(rt.alloc());
-    rt.stdin().read_to_end(&mut input)?;
-    let n = input.len().min(READ);
-    all(&rt, &input[..n])
+    let mut buffer = [0u8; READ];
+    let n = read_full(&mut rt.stdin(), &mut buffer);
+    all(&rt, &buffer[..n])
 }
