@@ -14,7 +14,7 @@ mod splits;
 mod summaries;
 
 use std::io;
-use std::io::{ErrorKind, Read};
+use std::io::Read;
 
 // How many bytes of the input are looked at.
 const READ: usize = 65536;
@@ -104,18 +104,10 @@ fn read_full<R: Read>(reader: &mut R, buffer: &mut [u8]) -> usize
     ensures { result ≤ length buffer.old }
 {
     let mut at = 0;
-    for _ in 0..u64::MAX {
-        if at == buffer.len() {
-            return at;
-        }
+    for _ in 0..buffer.len() {
         match reader.read(&mut buffer[at..]) {
-            Ok(0) => return at,
+            Ok(0) | Err(_) => return at,
             Ok(n) => at += n,
-            Err(e) => {
-                if e.kind() != ErrorKind::Interrupted {
-                    return at;
-                }
-            }
         }
     }
     at
