@@ -13,8 +13,3 @@ returns-then-states-lt8 c = search turns
 
 pub returns-else-states-lt8 : goal.returns-else-states-lt8
 returns-else-states-lt8 c = search turns
-
--- LEFT
--- -- NONEED nonzero-rem-result
--- rem-result : tie.Need-nonzero-rem-result
--- rem-result c = search turns

@@ -5,9 +5,6 @@ use Rattle.pairs.proofs.note_form.Goals as goal
 pub invalid_form-requires : goal.invalid_form-requires
 invalid_form-requires c = search notes
 
-pub tallied-requires : goal.tallied-requires
-tallied-requires c = search notes
-
 pub returns-then-notes : goal.returns-then-notes
 returns-then-notes c = search notes
 
@@ -17,20 +14,8 @@ row_of-row-requires c = search notes
 pub holds-requires : goal.holds-requires
 holds-requires c = search notes
 
-pub tallied-requires-then-holds : goal.tallied-requires-then-holds
-tallied-requires-then-holds c = search notes
-
-pub shape_of-table-then-holds : goal.shape_of-table-then-holds
-shape_of-table-then-holds c = search notes
-
 pub returns-then-holds : goal.returns-then-holds
 returns-then-holds c = search notes
-
-pub tallied-requires-then-m-ge-IMAGES : goal.tallied-requires-then-m-ge-IMAGES
-tallied-requires-then-m-ge-IMAGES c = search notes
-
-pub shape_of-table-then-m-ge-IMAGES : goal.shape_of-table-then-m-ge-IMAGES
-shape_of-table-then-m-ge-IMAGES c = search notes
 
 pub returns-then-m-ge-IMAGES : goal.returns-then-m-ge-IMAGES
 returns-then-m-ge-IMAGES c = search notes
@@ -43,12 +28,6 @@ add-requires c = search notes
 
 pub overflow_add-m : goal.overflow_add-m
 overflow_add-m c = search notes
-
-pub tallied-requires-2 : goal.tallied-requires-2
-tallied-requires-2 c = search notes
-
-pub shape_of-table : goal.shape_of-table
-shape_of-table c = search notes
 
 pub returns : goal.returns
 returns c = search notes

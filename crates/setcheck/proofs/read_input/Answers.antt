@@ -1,3 +1,5 @@
+-- What stands in the buffer are the bytes that the reader had, up to where the reads have come (InputLaws); a read that ends or fails decides.
+-- Assumes nothing.
 use Rattle.std.proofs.Common.{rules, ◌≡◌, ◌<◌, ◌≤◌, length, take}
 use Rattle.line.specs.Lines.{room}
 use Rattle.setcheck.proofs.InputLaws.{read_more, read_ended, read_to_full}
