@@ -1,3 +1,4 @@
+-- What was read so far is in the buffer. Assumes nothing.
 use Rattle.std.proofs.Common.{◌≤◌, length}
 use Rattle.cases.proofs.read_full.Given as goal
 

@@ -6,7 +6,9 @@ use Rattle.line.specs.Lines.{over_from}
 use Rattle.line.proofs.put_digits.Given as goal
 
 abbrev pub invariant-loop-i : goal.invariant-loop-i
-invariant-loop-i l = (l.i ≤ length l.initial.out) × (length l.out ≡ length l.initial.out) × (over_from l.at (digits (l.i - l.at) l.rest) l.out ≡ over_from l.at (digits l.k l.n) l.initial.out)
+invariant-loop-i l =
+    (l.i ≤ length l.initial.out) × (length l.out ≡ length l.initial.out)
+    × (over_from l.at (digits (l.i - l.at) l.rest) l.out ≡ over_from l.at (digits l.k l.n) l.initial.out)
 
 abbrev pub decreases-loop-i : goal.decreases-loop-i
 decreases-loop-i l = l.i

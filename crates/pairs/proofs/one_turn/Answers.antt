@@ -38,7 +38,12 @@ pub returns-in_default-a : goal.returns-in_default-a
 returns-in_default-a c = search (turn_no_left, c.load-a.ensures, c.in_default-a.is, c.empty-empty.ensures)
 
 pub then_form-t-requires : goal.then_form-t-requires
-then_form-t-requires c = record { lore = c.requires.lore; holds = search (loaded_holds, c.load-a.ensures, c.in-Form-a.is); more_bound = search (loaded_room, c.load-b.ensures, c.in-Form.is) }
+then_form-t-requires c =
+    record {
+      lore = c.requires.lore;
+      holds = search (loaded_holds, c.load-a.ensures, c.in-Form-a.is);
+      more_bound = search (loaded_room, c.load-b.ensures, c.in-Form.is);
+    }
 
 pub enum_known-t : goal.enum_known-t
 enum_known-t c = search one_turn_laws

@@ -11,4 +11,8 @@ returns-in_default c = (
 )
 
 pub check_sound-requires : goal.check_sound-requires
-check_sound-requires c = record { file_value = sym c.read-r.ensures ∙ c.in-Sound.is; lent = (c.if-table-lt-TABLE.false, c.if-budget-lt1.false, c.if-budget-gt-ROUNDS.false) }
+check_sound-requires c =
+    record {
+      file_value = sym c.read-r.ensures ∙ c.in-Sound.is;
+      lent = (c.if-table-lt-TABLE.false, c.if-budget-lt1.false, c.if-budget-gt-ROUNDS.false);
+    }

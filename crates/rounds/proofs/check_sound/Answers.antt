@@ -31,8 +31,9 @@ share-requires c =
     record {
       rules_in_range = part_in_range _ c.requires.file_value c.templates_of-rules.ensures;
       marks_all = c.productive-productive.ensures;
-      marks_all_2 = reached_useful _ c.requires.file_value c.templates_of-rules.ensures _ c.productive-productive.ensures _ c.marked.ensures (rw c.if-not-marked.false) _
-          c.reached-useful.ensures;
+      marks_all_2 =
+          reached_useful _ c.requires.file_value c.templates_of-rules.ensures _ c.productive-productive.ensures _ c.marked.ensures
+          (rw c.if-not-marked.false) _ c.reached-useful.ensures;
       rules_len_bound = part_few _ c.requires.file_value c.templates_of-rules.ensures;
       shares_len = search rules;
     }

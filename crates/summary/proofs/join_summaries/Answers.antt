@@ -13,7 +13,12 @@ teach-requires c = search join_turns
 pub then_form-t-requires : goal.then_form-t-requires
 then_form-t-requires c =
     let names-room : length c.args.left.names ≡ most_tags = search rules in
-    let values-room : length c.args.left.values ≡ pieces_long = search rules in record { lore = search join_turns; holds = holds_summary c.args.file.now c.args.left names-room values-room c.requires.summary_under; more_bound = c.requires.summary_under_2.few }
+    let values-room : length c.args.left.values ≡ pieces_long = search rules in
+    record {
+      lore = search join_turns;
+      holds = holds_summary c.args.file.now c.args.left names-room values-room c.requires.summary_under;
+      more_bound = c.requires.summary_under_2.few;
+    }
 
 pub enum_known-t : goal.enum_known-t
 enum_known-t c = search join_turns

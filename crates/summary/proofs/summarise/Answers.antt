@@ -11,7 +11,12 @@ pub put_piece-requires : goal.put_piece-requires
 put_piece-requires c = search finds_turns
 
 pub read_bytes-p-requires : goal.read_bytes-p-requires
-read_bytes-p-requires c = record { lore = search finds_turns; holds = empty_holds _ _ c.put_piece.ensures (rw c.empty.ensures (omega arith)); values_value = empty_first _ _ c.put_piece.ensures ∙ c.empty.ensures }
+read_bytes-p-requires c =
+    record {
+      lore = search finds_turns;
+      holds = empty_holds _ _ c.put_piece.ensures (rw c.empty.ensures (omega arith));
+      values_value = empty_first _ _ c.put_piece.ensures ∙ c.empty.ensures;
+    }
 
 pub enum_known-p : goal.enum_known-p
 enum_known-p c = search finds_turns

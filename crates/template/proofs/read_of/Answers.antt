@@ -33,13 +33,18 @@ unfolding tests
 returns-in-At c = answers_bad c.args.symbols c.args.file.now (first_stays (head_tests c.args.file.now) _ c.head_fault-head.ensures c.in-At.is)
 
 pub contents_fault-contents-requires : goal.contents_fault-contents-requires
-contents_fault-contents-requires c = record { in_bounds = head_length c.args.file.now (sym c.head_fault-head.ensures ∙ c.in_default.is); symbols_le_most_symbols = c.requires }
+contents_fault-contents-requires c =
+    record {
+      in_bounds = head_length c.args.file.now (sym c.head_fault-head.ensures ∙ c.in_default.is);
+      symbols_le_most_symbols = c.requires;
+    }
 
 pub returns-in-At-contents : goal.returns-in-At-contents
 unfolding tests
 returns-in-At-contents c =
     answers_bad c.args.symbols c.args.file.now
-    (after_head c.args.file.now _ c.head_fault-head.ensures c.in_default.is (first_stays (contents_tests c.args.symbols c.args.file.now) _ c.contents_fault-contents.ensures c.in-At-contents.is))
+    (after_head c.args.file.now _ c.head_fault-head.ensures c.in_default.is
+    (first_stays (contents_tests c.args.symbols c.args.file.now) _ c.contents_fault-contents.ensures c.in-At-contents.is))
 
 pub shape_of-s-requires : goal.shape_of-s-requires
 shape_of-s-requires c = head_length c.args.file.now (sym c.head_fault-head.ensures ∙ c.in_default.is)
@@ -56,9 +61,11 @@ bodies_fault-rest-requires c =
 pub returns-in-At-rest : goal.returns-in-At-rest
 returns-in-At-rest c =
     answers_bad _ c.args.file.now
-    (after_contents c.args.symbols c.args.file.now c.head_fault-head.ensures c.in_default.is c.contents_fault-contents.ensures c.in_default-contents.is (sym c.in-At-rest.is ∙ c.bodies_fault-rest.ensures))
+    (after_contents c.args.symbols c.args.file.now c.head_fault-head.ensures c.in_default.is c.contents_fault-contents.ensures
+    c.in_default-contents.is (sym c.in-At-rest.is ∙ c.bodies_fault-rest.ensures))
 
 pub returns : goal.returns
 returns c =
     answers_sound _ c.args.file.now c.shape_of-s.ensures
-    (after_contents c.args.symbols c.args.file.now c.head_fault-head.ensures c.in_default.is c.contents_fault-contents.ensures c.in_default-contents.is (sym c.in_default-rest.is ∙ c.bodies_fault-rest.ensures))
+    (after_contents c.args.symbols c.args.file.now c.head_fault-head.ensures c.in_default.is c.contents_fault-contents.ensures
+    c.in_default-contents.is (sym c.in_default-rest.is ∙ c.bodies_fault-rest.ensures))
