@@ -33,7 +33,7 @@
  *             check that was the first call of all used 8,920, since the dynamic linker has yet to look up memcpy and memset then, which are
  *             all that the archive calls outside itself.
  *
- * What is proved, and what is trusted. That each call answers as said here is proved of its source (crates/ujthanor, crates/demands).
+ * What is proved, and what is trusted. That each call answers as said here is proved of its source (crates/ujthanor_c, ujthanor, demands).
  * Trusted are the points above, that these declarations say what the archive exports, and the compiler that wrote the archive. */
 #ifndef UJTHANOR_H
 #define UJTHANOR_H
