@@ -1,23 +1,14 @@
--- Laying a file down in lent bytes: bytes over the front of a list, one byte more of them, and a part that runs to the end and comes
+-- Laying a file down in lent bytes: bytes over the front of a list, and a part that runs to the end and comes
 -- back. A file is its head over the front, then each body over the front of the part behind. Assumes nothing.
 use mathlib.Core.Path.{◌≡◌, refl, ap, ◌∙◌, sym}
 use mathlib.Core.List.{List, ◌++◌, append_assoc, append-nil}
-use Prim.Native.Nat.{ℕ, suc, ◌+◌, ◌-◌, ◌*◌, ◌/◌, ◌≤◌, ◌<◌}
-use native.Mathlib.Numerals.{add-one}
+use Prim.Native.Nat.{ℕ, ◌+◌, ◌-◌, ◌*◌, ◌/◌, ◌≤◌}
 use native.Mathlib.Omega.{arith}
-use lib.ListN.{length, get_or, drop, take, set, length-append, length-drop, drop_of_length-le}
-use lib.Seq.{take_all, take-suc, drop-cons, set_at, length-take-le, take_at, drop_at, drop-drop, sets, sets-eq}
+use lib.ListN.{length, drop, take, length-append, length-drop, drop_of_length-le}
+use lib.Seq.{take_all, take_at, drop_at, drop-drop, sets, sets-eq}
 use Rattle.template.specs.Layout.{first_body}
 use Rattle.template.specs.declared.Shape.{Shape}
 use Rattle.save.specs.Files.{numbers_of, half_bytes, head_of, file_of, head_for, file_for, over, Counted}
-
--- ---- one byte more
-
-pub copied_more : (out body : List ℕ) (i : ℕ) → i < length out → i < length body
-    → set (take i body ++ drop i out) i (get_or body i 0) ≡ take (i + 1) body ++ drop (i + 1) out
-copied_more out body i h k =
-    rw (add-one, drop-cons out i 0 h, take-suc body i 0 k)
-    (set_at (take i body) (get_or out i 0) (drop (suc i) out) (get_or body i 0) i (length-take-le i body (omega arith)) ∙ simp append_assoc)
 
 -- ---- a part that runs to the end
 
@@ -50,14 +41,14 @@ unfolding head_of
 head_length A N Q rules schema endings = refl
 
 -- the numbers and six numbers of 16 bits, one after another
-pub head_laid : (A N Q rules schema endings n₁ n₂ n₃ n₄ n₅ : ℕ) (out o₁ o₂ o₃ o₄ o₅ o₆ o₇ : List ℕ) → first_body ≤ length out
+pub head_laid : (A N Q rules schema endings second third : ℕ) (out o₁ o₂ o₃ o₄ o₅ o₆ o₇ : List ℕ) → first_body ≤ length out
     → o₁ ≡ sets out 0 (numbers_of A N Q) → o₂ ≡ sets o₁ 4 (half_bytes first_body)
-    → n₁ ≡ rules → o₃ ≡ sets o₂ 6 (half_bytes n₁) → n₂ ≡ first_body + 4 * rules → o₄ ≡ sets o₃ 8 (half_bytes n₂)
-    → n₃ ≡ schema → o₅ ≡ sets o₄ 10 (half_bytes n₃) → n₄ ≡ first_body + 4 * rules + 4 * schema → o₆ ≡ sets o₅ 12 (half_bytes n₄)
-    → n₅ ≡ endings → o₇ ≡ sets o₆ 14 (half_bytes n₅) → o₇ ≡ head_of A N Q rules schema endings ++ drop first_body out
+    → o₃ ≡ sets o₂ 6 (half_bytes rules) → second ≡ first_body + 4 * rules → o₄ ≡ sets o₃ 8 (half_bytes second)
+    → o₅ ≡ sets o₄ 10 (half_bytes schema) → third ≡ first_body + 4 * rules + 4 * schema → o₆ ≡ sets o₅ 12 (half_bytes third)
+    → o₇ ≡ sets o₆ 14 (half_bytes endings) → o₇ ≡ head_of A N Q rules schema endings ++ drop first_body out
 unfolding head_of
-head_laid A N Q rules schema endings n₁ n₂ n₃ n₄ n₅ out o₁ o₂ o₃ o₄ o₅ o₆ o₇ h e₁ e₂ m₁ e₃ m₂ e₄ m₃ e₅ m₄ e₆ m₅ e₇ =
-    rw (e₇, e₆, e₅, e₄, e₃, e₂, e₁, m₁, m₂, m₃, m₄, m₅) (sets-eq (head_of A N Q rules schema endings) out 0 h)
+head_laid A N Q rules schema endings second third out o₁ o₂ o₃ o₄ o₅ o₆ o₇ h e₁ e₂ e₃ m₂ e₄ e₅ m₃ e₆ e₇ =
+    rw (e₇, e₆, e₅, e₄, e₃, e₂, e₁, m₂, m₃) (sets-eq (head_of A N Q rules schema endings) out 0 h)
 
 -- ---- the file
 

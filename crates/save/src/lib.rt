@@ -11,7 +11,7 @@ fn second_body(shape: template::Shape) -> usize
     requires { shape.templates ≤ most_rules }
     ensures { result ≡ first_body + 4 * shape.templates }
 {
-    template::FIRST_BODY + 4 * numbers::wide_half(shape.templates)
+    template::FIRST_BODY + 4 * usize::from(shape.templates)
 }
 
 // Where the ending states begin.
@@ -19,17 +19,15 @@ fn third_body(shape: template::Shape) -> usize
     requires { (shape.templates ≤ most_rules) × (shape.schema ≤ most_schema_rules) }
     ensures { result ≡ first_body + 4 * shape.templates + 4 * shape.schema }
 {
-    second_body(shape) + 4 * numbers::wide_half(shape.schema)
+    second_body(shape) + 4 * usize::from(shape.schema)
 }
 
 // A number of 16 bits at a place, its low byte first.
-fn put_half(out: &mut [u8], at: usize, n: usize)
-    requires at_in_bounds { at + 2 ≤ length out.old }
-    requires n_bound { n < 65536 }
+fn put_half(out: &mut [u8], at: usize, n: u16)
+    requires { at + 2 ≤ length out.old }
     ensures { out.new ≡ sets out.old at (half_bytes n) }
 {
-    out[at] = (n % 256) as u8;
-    out[at + 1] = (n / 256) as u8;
+    out[at..at + 2].copy_from_slice(&n.to_le_bytes());
 }
 
 // A, N, Q and 0, at the start of the lent bytes.
@@ -37,10 +35,7 @@ fn put_numbers(out: &mut [u8], shape: template::Shape)
     requires { 4 ≤ length out.old }
     ensures { out.new ≡ sets out.old 0 (numbers_of shape.names shape.nonterminals shape.states) }
 {
-    out[0] = shape.names;
-    out[1] = shape.nonterminals;
-    out[2] = shape.states;
-    out[3] = 0;
+    out[..4].copy_from_slice(&[shape.names, shape.nonterminals, shape.states, 0]);
 }
 
 // The head and the contents, at the start of the lent bytes.
@@ -50,12 +45,12 @@ fn put_head(out: &mut [u8], shape: template::Shape)
     ensures { out.new ≡ head_for shape ++ drop first_body out.old }
 {
     put_numbers(out, shape);
-    put_half(out, 4, template::FIRST_BODY);
-    put_half(out, 6, numbers::wide_half(shape.templates));
-    put_half(out, 8, second_body(shape));
-    put_half(out, 10, numbers::wide_half(shape.schema));
-    put_half(out, 12, third_body(shape));
-    put_half(out, 14, numbers::wide_half(shape.endings));
+    put_half(out, 4, template::FIRST_BODY as u16);
+    put_half(out, 6, shape.templates);
+    put_half(out, 8, second_body(shape) as u16);
+    put_half(out, 10, shape.schema);
+    put_half(out, 12, third_body(shape) as u16);
+    put_half(out, 14, shape.endings);
 }
 
 // The bytes of a body, at the start of a lent part.
@@ -63,12 +58,7 @@ fn put_body(out: &mut [u8], body: &[u8])
     requires { length body.now ≤ length out.old }
     ensures { out.new ≡ over body.now out.old }
 {
-    let mut i = 0;
-    while i < body.len() {
-        let v = body[i];
-        out[i] = v;
-        i += 1;
-    }
+    out[..body.len()].copy_from_slice(body);
 }
 
 // The file of a shape and three lists, at the start of the lent bytes; those behind it stay.
