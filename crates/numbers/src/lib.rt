@@ -25,5 +25,5 @@ pub fn field(rules: &[u8], i: usize, j: usize) -> usize
     requires j_bound { j < 4 }
     ensures { (result ≡ field rules.now i j) × (result < 256) }
 {
-    wide(rules[i * 4 + j])
+    usize::from(rules[i * 4 + j])
 }

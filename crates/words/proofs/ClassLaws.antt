@@ -5,8 +5,9 @@ use Prim.Native.Nat.{ℕ, ◌+◌, ◌-◌, ◌≤◌, ◌<◌}
 use native.Mathlib.Omega.{arith}
 use borrow.Author.Rules.{rules}
 use Rattle.words.specs.Tags.{Tag, start, end, Name, Spells, start_byte, end_byte}
-use Rattle.words.specs.declared.Class.{Class}
-use Rattle.words.specs.declared.Class.TheVariants.{Start, End, NoTag}
+use Rattle.std.specs.Prelude.{Option, None, Some}
+use Rattle.words.specs.declared.Tag as class
+use Rattle.words.specs.declared.Tag.TheVariants.{Start, End}
 use Rattle.words.specs.Classes.{Classed}
 
 -- the byte of a tag, as an equation
@@ -62,17 +63,17 @@ same_tag A b (end a) (end d) (e, n) (f, m) = ap end (omega arith)
 pub spells_unique : {A b : ℕ} {t u : Tag} → Spells A b t → Spells A b u → t ≡ u
 spells_unique {A} {b} {t} {u} s r = same_tag A b t u (spells_coded s) (spells_coded r)
 
-abbrev pub tag_class : Tag → Class
-tag_class (start a) = Start a
-tag_class (end a) = End a
+abbrev pub tag_class : Tag → Option class.Tag
+tag_class (start a) = Some (Start a)
+tag_class (end a) = Some (End a)
 
-pub classed_unique : (A b : ℕ) (r q : Class) → Classed A b r → Classed A b q → r ≡ q
-classed_unique A b (Start a) (Start d) s t = ap tag_class (spells_unique s t)
-classed_unique A b (Start a) (End d) s t = ap tag_class (spells_unique s t)
-classed_unique A b (Start a) NoTag s n = absurd (n (start a) s)
-classed_unique A b (End a) (Start d) s t = ap tag_class (spells_unique s t)
-classed_unique A b (End a) (End d) s t = ap tag_class (spells_unique s t)
-classed_unique A b (End a) NoTag s n = absurd (n (end a) s)
-classed_unique A b NoTag (Start d) n t = absurd (n (start d) t)
-classed_unique A b NoTag (End d) n t = absurd (n (end d) t)
-classed_unique A b NoTag NoTag n m = refl
+pub classed_unique : (A b : ℕ) (r q : Option class.Tag) → Classed A b r → Classed A b q → r ≡ q
+classed_unique A b (Some (Start a)) (Some (Start d)) s t = ap tag_class (spells_unique s t)
+classed_unique A b (Some (Start a)) (Some (End d)) s t = ap tag_class (spells_unique s t)
+classed_unique A b (Some (Start a)) None s n = absurd (n (start a) s)
+classed_unique A b (Some (End a)) (Some (Start d)) s t = ap tag_class (spells_unique s t)
+classed_unique A b (Some (End a)) (Some (End d)) s t = ap tag_class (spells_unique s t)
+classed_unique A b (Some (End a)) None s n = absurd (n (end a) s)
+classed_unique A b None (Some (Start d)) n t = absurd (n (start d) t)
+classed_unique A b None (Some (End d)) n t = absurd (n (end d) t)
+classed_unique A b None None n m = refl

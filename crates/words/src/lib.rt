@@ -7,29 +7,28 @@ ghost use Rattle.words.specs.Classes.{Classed};
 // The most element names.
 pub const NAMES: usize = 32;
 
-// The start tag of a name, the end tag of a name, or no tag.
-#[derive(Clone, Copy)]
-pub enum Class {
+// The start tag or the end tag of a name.
+#[derive(Clone, Copy, Debug, PartialEq, Eq)]
+pub enum Tag {
     Start(u8),
     End(u8),
-    NoTag,
 }
 
-// What the byte is where there are this many element names. Names are below 32, however many are asked for.
-pub fn class_of(names: u8, byte: u8) -> Class
+// The tag that the byte spells where there are this many element names, if any. Names are below 32, however many are asked for.
+pub fn class_of(names: u8, byte: u8) -> Option<Tag>
     ensures { Classed names byte result }
 {
     if byte < 32 {
         if byte < names {
-            return Class::Start(byte);
+            return Some(Tag::Start(byte));
         }
-        return Class::NoTag;
+        return None;
     }
     if byte < 64 {
         let name = byte - 32;
         if name < names {
-            return Class::End(name);
+            return Some(Tag::End(name));
         }
     }
-    Class::NoTag
+    None
 }
