@@ -12,8 +12,9 @@ use Rattle.words.specs.Binoid.{Binoid, Laws}
 use Rattle.words.specs.Reduced.{Stack, bottom}
 use Rattle.words.specs.Reader.{Limited, fits, differs, too_deep, step, limit}
 use Rattle.words.specs.Classes.{Classed}
-use Rattle.words.specs.declared.Class.{Class}
-use Rattle.words.specs.declared.Class.TheVariants.{Start, End, NoTag}
+use Rattle.std.specs.Prelude.{Option, None, Some}
+use Rattle.words.specs.declared.Tag as class
+use Rattle.words.specs.declared.Tag.TheVariants.{Start, End}
 use Rattle.words.proofs.ClassLaws.{start_spelled, end_spelled, low_unspelled, high_unspelled, past_unspelled}
 use Rattle.reader.specs.Reads.{Found, whole, refused, no_tag, mismatch, too_many, Form, AllReadable, Reads, reads_all, reads_to, by_no_tag}
 use Rattle.reader.proofs.FormLaws.{form_empty}
@@ -23,14 +24,14 @@ use Rattle.reader.proofs.NextLaws.{AfterByte, after_step}
 -- ---- the class of a byte
 
 module _ (A b : ℕ) where
-  unfoldable pub class_by : Dec (b < 32) → Dec (b < 64) → Dec (b < A) → Dec (b - 32 < A) → Class
-  class_by (yes l) m (yes k) g = Start b
-  class_by (yes l) m (no k) g = NoTag
-  class_by (no l) (no m) k g = NoTag
-  class_by (no l) (yes m) k (yes g) = End (b - 32)
-  class_by (no l) (yes m) k (no g) = NoTag
+  unfoldable pub class_by : Dec (b < 32) → Dec (b < 64) → Dec (b < A) → Dec (b - 32 < A) → Option class.Tag
+  class_by (yes l) m (yes k) g = Some (Start b)
+  class_by (yes l) m (no k) g = None
+  class_by (no l) (no m) k g = None
+  class_by (no l) (yes m) k (yes g) = Some (End (b - 32))
+  class_by (no l) (yes m) k (no g) = None
 
-  unfoldable pub class_of : Class
+  unfoldable pub class_of : Option class.Tag
   class_of = class_by (dec_lt b 32) (dec_lt b 64) (dec_lt b A) (dec_lt (b - 32) A)
 
   classed_by : (l : Dec (b < 32)) (m : Dec (b < 64)) (k : Dec (b < A)) (g : Dec (b - 32 < A)) → Classed A b (class_by l m k g)
@@ -54,10 +55,10 @@ module _ (A : ℕ) (B : Binoid) (n : ℕ) where
   find_on i more (differs x y) = refused mismatch i
   find_on i more too_deep = refused too_many i
 
-  unfoldable pub find_by : ℕ → (Stack B.H → B.H → Found B.H) → Stack B.H → B.H → Class → Found B.H
-  find_by i more s c (Start a) = find_on i more (limit B n (step B s c (start a)))
-  find_by i more s c (End a) = find_on i more (limit B n (step B s c (end a)))
-  find_by i more s c NoTag = refused no_tag i
+  unfoldable pub find_by : ℕ → (Stack B.H → B.H → Found B.H) → Stack B.H → B.H → Option class.Tag → Found B.H
+  find_by i more s c (Some (Start a)) = find_on i more (limit B n (step B s c (start a)))
+  find_by i more s c (Some (End a)) = find_on i more (limit B n (step B s c (end a)))
+  find_by i more s c None = refused no_tag i
 
   -- the bytes behind `before`, which left this form
   unfoldable pub find_from : List ℕ → List ℕ → Stack B.H → B.H → Found B.H
@@ -85,12 +86,12 @@ module _ (A : ℕ) (B : Binoid) (n : ℕ) where
       tag_reads {t} {s} {c} f p =
           on_reads (limit B n (step B s c t)) (after_step A B n L u b r f p (limit B n (step B s c t)) refl)
 
-      by_reads : (s : Stack B.H) (c : B.H) → Form A B n u s c → (k : Class) → Classed A b k
+      by_reads : (s : Stack B.H) (c : B.H) → Form A B n u s c → (k : Option class.Tag) → Classed A b k
           → Reads A B n (u ++ (b ∷ v)) (find_by (length u) more s c k)
       unfolding find_by
-      by_reads s c f (Start a) p = tag_reads f p
-      by_reads s c f (End a) p = tag_reads f p
-      by_reads s c f NoTag p = reads_to u b v r (by_no_tag u b p)
+      by_reads s c f (Some (Start a)) p = tag_reads f p
+      by_reads s c f (Some (End a)) p = tag_reads f p
+      by_reads s c f None p = reads_to u b v r (by_no_tag u b p)
 
     from_reads : (v u : List ℕ) (s : Stack B.H) (c : B.H) → AllReadable A B n u → Form A B n u s c
         → Reads A B n (u ++ v) (find_from v u s c)

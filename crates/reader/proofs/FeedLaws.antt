@@ -1,5 +1,5 @@
 -- A byte's step by the tag that it spells (specs/Feeds.antt), by cases on the step of that tag. Assumes nothing.
-use mathlib.Core.Path.{◌≡◌, refl, sym, subst}
+use mathlib.Core.Path.{◌≡◌, ◌∙◌, refl, sym, ap, subst}
 use mathlib.Core.Bool.{true, false}
 use mathlib.Core.List.{List}
 use Prim.Native.Nat.{ℕ}
@@ -7,8 +7,9 @@ use borrow.Author.Rules.{rules}
 use Rattle.words.specs.Tags.{Tag, Spells}
 use Rattle.words.specs.Reader.{Limited}
 use Rattle.words.specs.Classes.{Classed}
-use Rattle.words.specs.declared.Class.{Class}
-use Rattle.words.specs.declared.Class.TheVariants.{Start, End, NoTag}
+use Rattle.std.specs.Prelude.{Option, Some}
+use Rattle.words.specs.declared.Tag as class
+use Rattle.words.specs.declared.Tag.TheVariants.{Start, End}
 use Rattle.pieces.specs.declared.Piece.{Piece}
 use Rattle.form.specs.Held.{tag_of}
 use Rattle.form.specs.Steps.{outcome, Stepped}
@@ -41,17 +42,14 @@ module _ (A b p : ℕ) (names values : List ℕ) (after : Tag → Limited Piece)
   fed_spelled t s (step.Mismatch x y) h = (refl, (t, s, (x, y, sym h.says)))
   fed_spelled t s step.TooDeep h = (refl, (t, s, sym h.says))
 
-  pub fed_start : (k : Class) (a : ℕ) (r : Step) (f : Progress) → Classed A b k → k ≡ Start a
+  pub fed_start : (k : Option class.Tag) (t : class.Tag) (a : ℕ) (r : Step) (f : Progress) → Classed A b k → k ≡ Some t → t ≡ Start a
       → Stepped r names values (after (tag_of false a)) → f ≡ progress_of r p → Fed f names values after A b p
-  fed_start k a r f s e h g =
-      subst (λ f. Fed f names values after A b p) (sym g) (fed_spelled (tag_of false a) (subst (λ k. Classed A b k) e s) r h)
+  fed_start k t a r f s e i h g =
+      rw g (fed_spelled (tag_of false a) (subst (λ k. Classed A b k) (e ∙ ap Some i) s) r h)
 
-  pub fed_end : (k : Class) (a : ℕ) (r : Step) (f : Progress) → Classed A b k → k ≡ End a
+  pub fed_end : (k : Option class.Tag) (t : class.Tag) (a : ℕ) (r : Step) (f : Progress) → Classed A b k → k ≡ Some t → t ≡ End a
       → Stepped r names values (after (tag_of true a)) → f ≡ progress_of r p → Fed f names values after A b p
-  fed_end k a r f s e h g =
-      subst (λ f. Fed f names values after A b p) (sym g) (fed_spelled (tag_of true a) (subst (λ k. Classed A b k) e s) r h)
+  fed_end k t a r f s e i h g =
+      rw g (fed_spelled (tag_of true a) (subst (λ k. Classed A b k) (e ∙ ap Some i) s) r h)
 
-  pub fed_none : (k : Class) → Classed A b k → k ≡ NoTag → Fed (progress.NotATag p) names values after A b p
-  fed_none k s e = (refl, subst (λ k. Classed A b k) e s)
-
-pub ruleset feeds = (progress_kept, progress_mismatch, progress_deep, fed_start, fed_end, fed_none, rules)
+pub ruleset feeds = (progress_kept, progress_mismatch, progress_deep, fed_start, fed_end, rules)

@@ -48,15 +48,15 @@ fn then_byte(
 {
     let class = words::class_of(known, byte);
     match class {
-        words::Class::Start(a) => {
+        Some(words::Tag::Start(a)) => {
             let t = form::then_tag(lore, names, values, c, false, a);
             progressed(t, at)
         }
-        words::Class::End(a) => {
+        Some(words::Tag::End(a)) => {
             let t = form::then_tag(lore, names, values, c, true, a);
             progressed(t, at)
         }
-        words::Class::NoTag => Progress::NotATag(at),
+        None => Progress::NotATag(at),
     }
 }
 
