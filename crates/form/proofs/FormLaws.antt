@@ -10,6 +10,7 @@ use native.Mathlib.Omega.{arith}
 use lib.Dec.{ltb}
 use lib.ListN.{get_or}
 use borrow.Author.Rules.{rules}
+use Rattle.std.specs.Prelude.{Result, Ok, Err}
 use Rattle.words.specs.Reader.{reduced, Limited, limit, join, then_tag_within, then_value_within, join_within}
 use Rattle.words.proofs.LimitLaws.{join_within_limit}
 use Rattle.pieces.specs.declared.Piece.{Piece}
@@ -18,10 +19,9 @@ use Rattle.form.specs.Held.{tag_of, tag_at, stack_of, tag_count, summary_of, for
 use Rattle.form.specs.Steps.{held, outcome, Stepped, after_tag, after_turn, after_form}
 use Rattle.form.specs.declared.Counts.{Counts}
 use Rattle.form.specs.declared.Summary.{Summary}
-use Rattle.form.specs.declared.Step.{Step}
-use Rattle.form.specs.declared.Step.TheVariants.{Kept}
+use Rattle.form.specs.declared.Clash.{Clash}
 use Rattle.form.proofs.HeldLaws.{tags_held, ends_first_held}
-use Rattle.form.proofs.TurnLaws.{stepped_held, IsRefused, kept_holds, held_value, holds_more}
+use Rattle.form.proofs.TurnLaws.{stepped_held, kept_holds, held_value, holds_more}
 use Rattle.form.proofs.TurnLaws.{refused_says, refused_value, refused_tag}
 
 module _ (lore : List ℕ) where
@@ -46,25 +46,26 @@ module _ (lore : List ℕ) where
 
     -- a refusal stays
 
-    turned_later : (r : Step) → IsRefused r → (names' values' : List ℕ) (k d : ℕ) → outcome r names' values' ≡ turned o e names values k
-        → outcome r names' values' ≡ turned o e names values (d + k)
+    turned_later : (clash : Clash) (names' values' : List ℕ) (k d : ℕ) → outcome (Err clash) names' values' ≡ turned o e names values k
+        → outcome (Err clash) names' values' ≡ turned o e names values (d + k)
     unfolding turned
-    turned_later r f names' values' k zero p = rw zero-add p
-    turned_later r f names' values' k (suc d) p =
+    turned_later clash names' values' k zero p = rw zero-add p
+    turned_later clash names' values' k (suc d) p =
         rw (
           suc-add,
-          ← (turned_later r f names' values' k d p),
-          refused_tag lore r f names' values' most_tags (tag_at e names (d + k)),
-          refused_value lore r f names' values' (piece_at values (suc (d + k))),
+          ← (turned_later clash names' values' k d p),
+          refused_tag lore clash names' values' most_tags (tag_at e names (d + k)),
+          refused_value lore clash names' values' (piece_at values (suc (d + k))),
         )
 
-    pub turned_refused : (r : Step) → IsRefused r → (names' values' : List ℕ) (k n : ℕ) → k ≤ n
-        → outcome r names' values' ≡ turned o e names values k → outcome r names' values' ≡ turned o e names values n
-    turned_refused r f names' values' k n l p =
-        let z : n - k + k ≡ n = omega arith in rw z at (turned_later r f names' values' k (n - k) p)
+    pub turned_refused : (clash : Clash) (names' values' : List ℕ) (k n : ℕ) → k ≤ n
+        → outcome (Err clash) names' values' ≡ turned o e names values k
+        → outcome (Err clash) names' values' ≡ turned o e names values n
+    turned_refused clash names' values' k n l p =
+        let z : n - k + k ≡ n = omega arith in rw z at (turned_later clash names' values' k (n - k) p)
 
     -- one turn of the code, after k tags
-    module _ (c : Counts) (k : ℕ) (names₁ values₁ : List ℕ) (r : Step) (names₂ values₂ : List ℕ) (v : Piece)
+    module _ (c : Counts) (k : ℕ) (names₁ values₁ : List ℕ) (r : Result Counts Clash) (names₂ values₂ : List ℕ) (v : Piece)
         (part : v ≡ piece_at values (k + 1))
         (told : Stepped r names₂ values₂ (after_turn lore (summary_of c names₁ values₁) (tag_of (ltb k e) (get_or names k 0)) v))
         (sofar : held (summary_of c names₁ values₁) ≡ turned o e names values k) where
@@ -72,7 +73,7 @@ module _ (lore : List ℕ) where
       unfolding after_turn after_tag turned then_tag_within tag_at
       turned_next = rw (add-one k, ← sofar) (rw (part, add-one k) at told.says)
 
-      pub turned_kept : (d : Counts) → r ≡ Kept d → held (summary_of d names₂ values₂) ≡ turned o e names values (k + 1)
+      pub turned_kept : (d : Counts) → r ≡ Ok d → held (summary_of d names₂ values₂) ≡ turned o e names values (k + 1)
       unfolding outcome
       turned_kept d p = rw p at turned_next
 
@@ -103,21 +104,21 @@ module _ (lore : List ℕ) where
 
     pub form_end : (d : Counts) (k : ℕ) (names values : List ℕ) → held (summary_of d names values) ≡ after k
         → k ≤ tag_count more.counts → tag_count more.counts ≤ k → Holds (summary_of d names values)
-        → Stepped (Kept d) names values (after_form lore s more)
+        → Stepped (Ok d) names values (after_form lore s more)
     form_end d k names values i l l' h =
         let z : k ≡ tag_count more.counts = omega arith in
         stepped_held d names values (after_form lore s more) h (rw z at i ∙ sym form_turned)
 
-    pub form_refused : (d : Counts) (k : ℕ) (names values : List ℕ) (r : Step) (names' values' : List ℕ) (w : Piece)
+    pub form_refused : (d : Counts) (k : ℕ) (names values : List ℕ) (r : Result Counts Clash) (names' values' : List ℕ) (w : Piece)
         → held (summary_of d names values) ≡ after k → k < tag_count more.counts → w ≡ piece_at more.values (k + 1)
         → Stepped r names' values'
         (after_turn lore (summary_of d names values) (tag_of (ltb k more.counts.ends) (get_or more.names k 0)) w)
-        → IsRefused r → Stepped r names' values' (after_form lore s more)
-    form_refused d k names values r names' values' w i l q h f =
+        → (clash : Clash) → r ≡ Err clash → Stepped (Err clash) names' values' (after_form lore s more)
+    form_refused d k names values r names' values' w i l q h clash p =
         let o = held (summary_of s.counts s.names first) in
         let e = more.counts.ends in
-        refused_says r f names' values' names' values' (after_form lore s more)
-        (turned_refused o e more.names more.values r f names' values' (k + 1) (tag_count more.counts) (omega arith)
-        (turned_next o e more.names more.values d k names values r names' values' w q h i) ∙ sym form_turned)
+        refused_says clash names' values' names' values' (after_form lore s more)
+        (turned_refused o e more.names more.values clash names' values' (k + 1) (tag_count more.counts) (omega arith)
+        (rw p at (turned_next o e more.names more.values d k names values r names' values' w q h i)) ∙ sym form_turned)
 
 pub ruleset form_laws = (kept_holds, holds_more, turned_none, turned_kept, form_end, form_refused, rules)

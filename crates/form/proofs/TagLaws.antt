@@ -10,6 +10,7 @@ use native.Mathlib.Omega.{arith}
 use lib.Dec.{ltb}
 use lib.ListN.{get_or, set, length-set, replicate, length-replicate}
 use borrow.Author.Rules.{rules}
+use Rattle.std.specs.Prelude.{Result, Ok, Err}
 use Rattle.words.specs.Tags.{Tag, start, end}
 use Rattle.words.specs.Reduced.{push, EndsFirst, tags}
 use Rattle.words.specs.Reader.{reduced, fits, limit}
@@ -22,8 +23,8 @@ use Rattle.form.specs.Held.{tag_of, stack_of, tag_count, summary_of, form_of, la
 use Rattle.form.specs.Steps.{Stepped, after_tag, after_turn}
 use Rattle.form.specs.declared.Counts.{Counts}
 use Rattle.form.specs.declared.Summary.{Summary}
-use Rattle.form.specs.declared.Step.{Step}
-use Rattle.form.specs.declared.Step.TheVariants.{Kept, Mismatch, TooDeep}
+use Rattle.form.specs.declared.Clash.{Clash}
+use Rattle.form.specs.declared.Clash.TheVariants.{Mismatch, TooDeep}
 use Rattle.form.proofs.HeldLaws.{tag_start, stack_last, stack_put_start, stack_put_end, stack_take}
 use Rattle.form.proofs.HeldLaws.{unused_none, unused_put, unused_take, value_taken, tags_held, only_ends_held, ends_first_held}
 use Rattle.form.proofs.TurnLaws.{stepped_held, stepped_differs, stepped_deep, one_start, one_end, meets_none, turn_kept, from_tag}
@@ -103,7 +104,7 @@ module _ (lore : List ℕ) (s : Summary) where
     -- one tag too many
 
     tag_deep : (t : Tag) → EndsFirst (push (form_of s) (last_of s) t) → most_tags ≤ tag_count s.counts
-        → Stepped TooDeep names values (after_tag lore s t)
+        → Stepped (Err TooDeep) names values (after_tag lore s t)
     unfolding tags
     tag_deep t f l =
         let form = push (form_of s) (last_of s) t in
@@ -111,15 +112,15 @@ module _ (lore : List ℕ) (s : Summary) where
         (tag_put t f ∙ limit_out (pieces lore) most_tags form (pieces lore).unit (omega (arith, form_tags)))
 
     pub start_deep : (closes : Bool) → closes ≡ false → most_tags ≤ tag_count s.counts
-        → Stepped TooDeep names values (after_tag lore s (tag_of closes name))
+        → Stepped (Err TooDeep) names values (after_tag lore s (tag_of closes name))
     start_deep closes f l = rw f (tag_deep (start name) (behind_all name) l)
 
     pub end_deep : (closes : Bool) → closes ≡ true → s.counts.starts ≤ 0 → most_tags ≤ tag_count s.counts
-        → Stepped TooDeep names values (after_tag lore s (tag_of closes name))
+        → Stepped (Err TooDeep) names values (after_tag lore s (tag_of closes name))
     end_deep closes f z l = rw f (tag_deep (end name) (behind_ends name z) l)
 
     pub stays_deep : (closes : Bool) → (closes && ltb 0 s.counts.starts) ≡ false → most_tags ≤ tag_count s.counts
-        → Stepped TooDeep names values (after_tag lore s (tag_of closes name))
+        → Stepped (Err TooDeep) names values (after_tag lore s (tag_of closes name))
     stays_deep true t l = end_deep true refl (meets_none s.counts.starts true refl t) l
     stays_deep false t l = start_deep false refl l
 
@@ -128,7 +129,7 @@ module _ (lore : List ℕ) (s : Summary) where
         (p : names ≡ set s.names (tag_count s.counts) name) (q : values ≡ put_piece s.values (tag_count s.counts + 1) v) where
       tag_kept : (t : Tag) → tag_count d ≡ tag_count s.counts + 1 → EndsFirst (push (form_of s) (last_of s) t)
           → stack_of d.ends (set s.names (tag_count s.counts) name) (put_piece s.values (tag_count s.counts + 1) v)
-          (tag_count s.counts + 1) ≡ push (form_of s) (last_of s) t → Stepped (Kept d) names values (after_tag lore s t)
+          (tag_count s.counts + 1) ≡ push (form_of s) (last_of s) t → Stepped (Ok d) names values (after_tag lore s t)
       unfolding tags
       tag_kept t more f is =
           let n = tag_count s.counts in
@@ -140,7 +141,7 @@ module _ (lore : List ℕ) (s : Summary) where
           (ap₂ fits is (piece_same s.values (n + 1) v h.values_long (omega arith) ∙ unit))))
 
       pub start_kept : closes ≡ false → d ≡ record { ends = s.counts.ends; starts = s.counts.starts + 1 }
-          → Stepped (Kept d) names values (after_tag lore s (tag_of closes name))
+          → Stepped (Ok d) names values (after_tag lore s (tag_of closes name))
       start_kept f e =
           let n = tag_count s.counts in
           rw f
@@ -151,7 +152,7 @@ module _ (lore : List ℕ) (s : Summary) where
 
       -- where no start stands
       pub end_kept : closes ≡ true → s.counts.starts ≤ 0 → d ≡ record { ends = s.counts.ends + 1; starts = 0 }
-          → Stepped (Kept d) names values (after_tag lore s (tag_of closes name))
+          → Stepped (Ok d) names values (after_tag lore s (tag_of closes name))
       end_kept f z e =
           let n = tag_count s.counts in
           let one : s.counts.ends + 1 ≡ n + 1 = omega arith in
@@ -164,7 +165,7 @@ module _ (lore : List ℕ) (s : Summary) where
     -- an end tag where starts stand: it meets the innermost
 
     pub end_differs : (a : ℕ) → a ≡ get_or s.names (tag_count s.counts - 1) 0 → 0 < s.counts.starts → (a ≡ name → ⊥)
-        → Stepped (Mismatch a name) names values (after_tag lore s (end name))
+        → Stepped (Err (Mismatch a name)) names values (after_tag lore s (end name))
     unfolding after_tag
     end_differs a top l other =
         let n = tag_count s.counts in
@@ -187,7 +188,7 @@ module _ (lore : List ℕ) (s : Summary) where
       one_less : tag_count d ≡ tag_count s.counts - 1
       one_less = rw e (omega arith)
 
-      end_taken : Stepped (Kept d) names (taken whole) (after_tag lore s (end name))
+      end_taken : Stepped (Ok d) names (taken whole) (after_tag lore s (end name))
       unfolding after_tag
       end_taken =
           let n = tag_count s.counts in
@@ -209,17 +210,17 @@ module _ (lore : List ℕ) (s : Summary) where
           (ap₂ fits (stack_take s.counts.ends n (n - 1) 0 whole zero_piece s.names s.values (omega arith))
           (value_taken n (n - 1) whole zero_piece s.values h.values_long (omega arith)))))
 
-      pub end_meets : (v : Piece) → v ≡ whole → values ≡ taken v → Stepped (Kept d) names values (after_tag lore s (end name))
+      pub end_meets : (v : Piece) → v ≡ whole → values ≡ taken v → Stepped (Ok d) names values (after_tag lore s (end name))
       end_meets v r q = rw (q, r) end_taken
 
       -- and a balanced word behind it
       pub end_cancels : (v u : Piece) → u ≡ (pieces lore).compose whole v → values ≡ taken u
-          → Stepped (Kept d) names values (after_turn lore s (end name) v)
+          → Stepped (Ok d) names values (after_turn lore s (end name) v)
       end_cancels v u r q =
           let n = tag_count s.counts in
           turn_kept lore s (end name) v names values d (n - 1) (put_piece s.values n zero_piece) whole u q r one_less end_taken
 
-    pub end_met : (closes : Bool) (r : Step) → closes ≡ true → Stepped r names values (after_tag lore s (end name))
+    pub end_met : (closes : Bool) (r : Result Counts Clash) → closes ≡ true → Stepped r names values (after_tag lore s (end name))
         → Stepped r names values (after_tag lore s (tag_of closes name))
     end_met closes r f h = rw f h
 

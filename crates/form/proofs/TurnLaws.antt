@@ -9,6 +9,7 @@ use Prim.Native.Nat.{ℕ, ◌+◌, ◌≤◌, ◌<◌}
 use native.Mathlib.Omega.{arith}
 use lib.Dec.{ltb}
 use borrow.Author.Tests.{ltb-true, ltb-false}
+use Rattle.std.specs.Prelude.{Result, Ok, Err}
 use Rattle.words.specs.Tags.{Tag, end}
 use Rattle.words.specs.Reader.{Limited, fits, differs, too_deep, then_tag_within, then_value_within}
 use Rattle.pieces.specs.declared.Piece.{Piece}
@@ -18,66 +19,50 @@ use Rattle.form.specs.Held.{tag_of, tag_count, summary_of, Holds}
 use Rattle.form.specs.Steps.{held, outcome, Stepped, after_tag, after_turn}
 use Rattle.form.specs.declared.Counts.{Counts}
 use Rattle.form.specs.declared.Summary.{Summary}
-use Rattle.form.specs.declared.Step.{Step}
-use Rattle.form.specs.declared.Step.TheVariants.{Kept, Mismatch, TooDeep}
+use Rattle.form.specs.declared.Clash.{Clash}
+use Rattle.form.specs.declared.Clash.TheVariants.{Mismatch, TooDeep}
 use Rattle.form.proofs.HeldLaws.{stack_value, unused_value, value_over}
 
 -- what a step says
 
 pub stepped_held : (c : Counts) (names values : List ℕ) (o : Limited Piece) → Holds (summary_of c names values)
-    → held (summary_of c names values) ≡ o → Stepped (Kept c) names values o
+    → held (summary_of c names values) ≡ o → Stepped (Ok c) names values o
 unfolding outcome
 stepped_held c names values o h p = record { says = p; holds = h }
 
-pub stepped_differs : (a b : ℕ) (names values : List ℕ) (o : Limited Piece) → o ≡ differs a b → Stepped (Mismatch a b) names values o
+pub stepped_differs : (a b : ℕ) (names values : List ℕ) (o : Limited Piece) → o ≡ differs a b → Stepped (Err (Mismatch a b)) names values o
 unfolding outcome
 stepped_differs a b names values o p = record { says = sym p; holds = tt }
 
-pub stepped_deep : (names values : List ℕ) (o : Limited Piece) → o ≡ too_deep → Stepped TooDeep names values o
+pub stepped_deep : (names values : List ℕ) (o : Limited Piece) → o ≡ too_deep → Stepped (Err TooDeep) names values o
 unfolding outcome
 stepped_deep names values o p = record { says = sym p; holds = tt }
 
 -- a step that is kept
-pub kept_holds : (r : Step) (names values : List ℕ) (o : Limited Piece) (c : Counts) → Stepped r names values o → r ≡ Kept c
-    → Holds (summary_of c names values)
+pub kept_holds : (r : Result Counts Clash) (names values : List ℕ) (o : Limited Piece) (c : Counts) → Stepped r names values o
+    → r ≡ Ok c → Holds (summary_of c names values)
 kept_holds r names values o c h p = rw p at h.holds
 
--- a step that is refused
+-- a step that is refused says the same whatever the arrays hold
 
--- as the code tells it: one of the two variants behind `Kept`
-abbrev pub IsRefused : Step → Type 0
-IsRefused r = (c : Counts) → r ≡ Kept c → ⊥
-
-kept_not : (c : Counts) → IsRefused (Kept c) → ⊥
-kept_not c f = f c refl
-
-pub differs_refused : (a b : ℕ) → IsRefused (Mismatch a b)
-differs_refused a b c e = cc
-
-pub deep_refused : IsRefused TooDeep
-deep_refused c e = cc
-
-pub refused_says : (r : Step) → IsRefused r → (names values names' values' : List ℕ) (o : Limited Piece) → outcome r names values ≡ o
-    → Stepped r names' values' o
+pub refused_says : (e : Clash) (names values names' values' : List ℕ) (o : Limited Piece) → outcome (Err e) names values ≡ o
+    → Stepped (Err e) names' values' o
 unfolding outcome
-refused_says (Kept c) f names values names' values' o p = absurd (kept_not c f)
-refused_says (Mismatch a b) f names values names' values' o p = record { says = p; holds = tt }
-refused_says TooDeep f names values names' values' o p = record { says = p; holds = tt }
+refused_says (Mismatch a b) names values names' values' o p = record { says = p; holds = tt }
+refused_says TooDeep names values names' values' o p = record { says = p; holds = tt }
 
 module _ (lore : List ℕ) where
-  pub refused_value : (r : Step) → IsRefused r → (names values : List ℕ) (v : Piece)
-      → then_value_within (pieces lore) (outcome r names values) v ≡ outcome r names values
+  pub refused_value : (e : Clash) (names values : List ℕ) (v : Piece)
+      → then_value_within (pieces lore) (outcome (Err e) names values) v ≡ outcome (Err e) names values
   unfolding outcome then_value_within
-  refused_value (Kept c) f names values v = absurd (kept_not c f)
-  refused_value (Mismatch a b) f names values v = refl
-  refused_value TooDeep f names values v = refl
+  refused_value (Mismatch a b) names values v = refl
+  refused_value TooDeep names values v = refl
 
-  pub refused_tag : (r : Step) → IsRefused r → (names values : List ℕ) (n : ℕ) (t : Tag)
-      → then_tag_within (pieces lore) n (outcome r names values) t ≡ outcome r names values
+  pub refused_tag : (e : Clash) (names values : List ℕ) (n : ℕ) (t : Tag)
+      → then_tag_within (pieces lore) n (outcome (Err e) names values) t ≡ outcome (Err e) names values
   unfolding outcome then_tag_within
-  refused_tag (Kept c) f names values n t = absurd (kept_not c f)
-  refused_tag (Mismatch a b) f names values n t = refl
-  refused_tag TooDeep f names values n t = refl
+  refused_tag (Mismatch a b) names values n t = refl
+  refused_tag TooDeep names values n t = refl
 
   -- a balanced word more
   pub held_value : (c : Counts) (v : Piece) (names values values' : List ℕ) → Holds (summary_of c names values)
@@ -129,8 +114,8 @@ module _ (n : ℕ) where
 module _ (lore : List ℕ) (s : Summary) (t : Tag) (v : Piece) (names values : List ℕ) where
   -- the word's piece goes over the one that the tag alone would leave in the last place
   pub turn_kept : (d : Counts) (n : ℕ) (before : List ℕ) (p q : Piece) → values ≡ put_piece before n q
-      → q ≡ (pieces lore).compose p v → tag_count d ≡ n → Stepped (Kept d) names (put_piece before n p) (after_tag lore s t)
-      → Stepped (Kept d) names values (after_turn lore s t v)
+      → q ≡ (pieces lore).compose p v → tag_count d ≡ n → Stepped (Ok d) names (put_piece before n p) (after_tag lore s t)
+      → Stepped (Ok d) names values (after_turn lore s t v)
   unfolding after_turn outcome
   turn_kept d n before p q w r e told =
       let alone = put_piece before n p in
@@ -144,15 +129,15 @@ module _ (lore : List ℕ) (s : Summary) (t : Tag) (v : Piece) (names values : L
       (holds_more lore d (piece_at alone (tag_count d)) v names alone values over h)
       (held_value lore d v names alone values h over ∙ ap (λ o. then_value_within (pieces lore) o v) told.says)
 
-  pub turn_refused : (r : Step) → IsRefused r → Stepped r names values (after_tag lore s t)
-      → Stepped r names values (after_turn lore s t v)
+  pub turn_refused : (e : Clash) → Stepped (Err e) names values (after_tag lore s t)
+      → Stepped (Err e) names values (after_turn lore s t v)
   unfolding after_turn
-  turn_refused r f told =
-      refused_says r f names values names values (then_value_within (pieces lore) (after_tag lore s t) v)
-      (sym (refused_value lore r f names values v) ∙ ap (λ o. then_value_within (pieces lore) o v) told.says)
+  turn_refused e told =
+      refused_says e names values names values (then_value_within (pieces lore) (after_tag lore s t) v)
+      (sym (refused_value lore e names values v) ∙ ap (λ o. then_value_within (pieces lore) o v) told.says)
 
 -- an end that meets a start
-pub turn_met : (lore : List ℕ) (s : Summary) (name n : ℕ) (v : Piece) (names values : List ℕ) (closes : Bool) (r : Step)
+pub turn_met : (lore : List ℕ) (s : Summary) (name n : ℕ) (v : Piece) (names values : List ℕ) (closes : Bool) (r : Result Counts Clash)
     → (closes && ltb 0 n) ≡ true → Stepped r names values (after_turn lore s (end name) v)
     → Stepped r names values (after_turn lore s (tag_of closes name) v)
 turn_met lore s name n v names values true r t h = h
@@ -160,4 +145,4 @@ turn_met lore s name n v names values false r t h = absurd (false≢true t)
 
 -- a turn, where a law tells the step of its tag
 pub ruleset from_tag =
-    (one_start, one_end, meets_start, meets_none, turn_kept, turn_refused, turn_met, differs_refused, deep_refused)
+    (one_start, one_end, meets_start, meets_none, turn_kept, turn_refused, turn_met)

@@ -14,7 +14,7 @@ ghost use Rattle.form.specs.Steps.{Stepped, after_tag, after_turn, after_form};
 ghost use Rattle.form.specs.Endings.{balance_of, ending_of};
 
 // How many unmatched ends and starts.
-#[derive(Clone, Copy)]
+#[derive(Clone, Copy, Debug, PartialEq, Eq)]
 pub struct Counts {
     pub ends: usize,
     pub starts: usize,
@@ -29,25 +29,16 @@ pub struct Summary {
     pub values: [u64; pieces::PIECES],
 }
 
-// After a tag: kept, with so many ends and starts; a start and an end of different names met; more than 16 tags.
-#[derive(Clone, Copy)]
-pub enum Step {
-    Kept(Counts),
+// Why a tag is not kept: a start and an end of different names met; more than 16 tags.
+#[derive(Clone, Copy, Debug, PartialEq, Eq)]
+pub enum Clash {
     Mismatch(u8, u8),
     TooDeep,
 }
 
-// The piece of what is balanced, or tags left unmatched.
-#[derive(Clone, Copy)]
-pub enum Balance {
-    Whole(pieces::Piece),
-    Unmatched,
-}
-
-// What the two tests at a page's end say; not derived is also what is not one element.
-#[derive(Clone, Copy)]
-pub enum Ending {
-    Page,
+// Why a form is no page: tags are left unmatched, or it is not derived, which is also what is not one element.
+#[derive(Clone, Copy, Debug, PartialEq, Eq)]
+pub enum Flaw {
     Unmatched,
     NotDerived,
 }
@@ -114,7 +105,7 @@ fn meet(
     values: &mut [u64; pieces::PIECES],
     c: Counts,
     name: u8,
-) -> Step
+) -> Result<Counts, Clash>
     requires lore { IsLore most_states lore.now }
     requires holds { Holds (summary_of c names.old values.old) }
     requires starts_nonzero { 0 < c.starts }
@@ -124,7 +115,7 @@ fn meet(
     let n = c.ends + c.starts;
     let open = names[n - 1];
     if open != name {
-        return Step::Mismatch(open, name);
+        return Err(Clash::Mismatch(open, name));
     }
     let value = closed(
         lore,
@@ -133,7 +124,7 @@ fn meet(
         pieces::piece_at(values, n),
     );
     take_tag(names, values, n, value);
-    Step::Kept(counted(c.ends, c.starts - 1))
+    Ok(counted(c.ends, c.starts - 1))
 }
 
 // One tag more. Callers pass `closes` as a constant, one call for each kind: the loop over bytes then has the start tag's path in it.
@@ -144,7 +135,7 @@ pub fn then_tag(
     c: Counts,
     closes: bool,
     name: u8,
-) -> Step
+) -> Result<Counts, Clash>
     requires lore { IsLore most_states lore.now }
     requires holds { Holds (summary_of c names.old values.old) }
     ensures { Stepped result names.new values.new
@@ -156,16 +147,16 @@ pub fn then_tag(
             return meet(lore, names, values, c, name);
         }
         if pieces::TAGS <= n {
-            return Step::TooDeep;
+            return Err(Clash::TooDeep);
         }
         put_tag(names, values, n, name, pieces::empty(lore));
-        return Step::Kept(counted(c.ends + 1, 0));
+        return Ok(counted(c.ends + 1, 0));
     }
     if pieces::TAGS <= n {
-        return Step::TooDeep;
+        return Err(Clash::TooDeep);
     }
     put_tag(names, values, n, name, pieces::empty(lore));
-    Step::Kept(counted(c.ends, c.starts + 1))
+    Ok(counted(c.ends, c.starts + 1))
 }
 
 // A balanced word of this piece more, behind n tags.
@@ -210,7 +201,7 @@ fn cancel(
     c: Counts,
     name: u8,
     value: pieces::Piece,
-) -> Step
+) -> Result<Counts, Clash>
     requires lore { IsLore most_states lore.now }
     requires holds { Holds (summary_of c names.old values.old) }
     requires starts_nonzero { 0 < c.starts }
@@ -220,7 +211,7 @@ fn cancel(
     let n = c.ends + c.starts;
     let innermost = names[n - 1];
     if innermost != name {
-        return Step::Mismatch(innermost, name);
+        return Err(Clash::Mismatch(innermost, name));
     }
     let both = closed_between(
         lore,
@@ -230,7 +221,7 @@ fn cancel(
         value,
     );
     take_tag(names, values, n, both);
-    Step::Kept(counted(c.ends, c.starts - 1))
+    Ok(counted(c.ends, c.starts - 1))
 }
 
 // One tag more, and a balanced word of this piece. Not by `then_tag`: the compiler puts that into the loop over bytes only while reading
@@ -243,7 +234,7 @@ fn turn(
     closes: bool,
     name: u8,
     value: pieces::Piece,
-) -> Step
+) -> Result<Counts, Clash>
     requires lore { IsLore most_states lore.now }
     requires holds { Holds (summary_of c names.old values.old) }
     ensures { Stepped result names.new values.new
@@ -254,14 +245,14 @@ fn turn(
     }
     let kept = c.ends + c.starts;
     if pieces::TAGS <= kept {
-        return Step::TooDeep;
+        return Err(Clash::TooDeep);
     }
     let both = pieces::follow(lore, pieces::empty(lore), value);
     put_tag(names, values, kept, name, both);
     if closes {
-        return Step::Kept(counted(c.ends + 1, 0));
+        return Ok(counted(c.ends + 1, 0));
     }
-    Step::Kept(counted(c.ends, c.starts + 1))
+    Ok(counted(c.ends, c.starts + 1))
 }
 
 // A whole form more, whose tags and pieces stand in arrays of its own. Its first end meets the start that was opened last, its next end
@@ -274,7 +265,7 @@ pub fn then_form(
     tags: &[u8; pieces::TAGS],
     parts: &[u64; pieces::PIECES],
     more: Counts,
-) -> Step
+) -> Result<Counts, Clash>
     requires lore { IsLore most_states lore.now }
     requires holds { Holds (summary_of c names.old values.old) }
     requires more_bound { tag_count more ≤ most_tags }
@@ -286,9 +277,8 @@ pub fn then_form(
     let closing = more.ends;
     let count = more.ends + more.starts;
     let mut d = c;
-    let mut k = 0;
-    while k < count {
-        let t = turn(
+    for k in 0..count {
+        d = turn(
             lore,
             names,
             values,
@@ -296,38 +286,30 @@ pub fn then_form(
             k < closing,
             tags[k],
             pieces::piece_at(parts, k + 1),
-        );
-        let Step::Kept(a) = t else {
-            return t;
-        };
-        d = a;
-        k += 1;
+        )?;
     }
-    Step::Kept(d)
+    Ok(d)
 }
 
-// Is any tag left unmatched?
-fn balance_of(c: Counts, last: pieces::Piece) -> Balance
+// The piece of what is balanced, where no tag is left unmatched.
+fn balance_of(c: Counts, last: pieces::Piece) -> Option<pieces::Piece>
     requires { tag_count c ≤ most_tags }
     ensures { result ≡ balance_of c last }
 {
     if 0 < c.ends + c.starts {
-        return Balance::Unmatched;
+        return None;
     }
-    Balance::Whole(last)
+    Some(last)
 }
 
 // The two tests at a page's end, on a form with so many tags and this piece after them.
-pub fn ending_of(lore: &[u64; lore::LORE], c: Counts, last: pieces::Piece) -> Ending
+pub fn ending_of(lore: &[u64; lore::LORE], c: Counts, last: pieces::Piece) -> Result<(), Flaw>
     requires { tag_count c ≤ most_tags }
     ensures { (form : Stack Piece) → tags form ≡ tag_count c → result ≡ ending_of lore.now form last }
 {
-    let b = balance_of(c, last);
-    let Balance::Whole(whole) = b else {
-        return Ending::Unmatched;
-    };
+    let whole = balance_of(c, last).ok_or(Flaw::Unmatched)?;
     if pieces::accepts(lore, whole) {
-        return Ending::Page;
+        return Ok(());
     }
-    Ending::NotDerived
+    Err(Flaw::NotDerived)
 }

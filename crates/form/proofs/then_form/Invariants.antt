@@ -1,5 +1,4 @@
 use mathlib.Core.Path.{◌≡◌}
-use Prim.Native.Nat.{◌≤◌, ◌-◌}
 use Rattle.form.specs.Held.{summary_of, Holds}
 use Rattle.form.specs.Steps.{held}
 use Rattle.form.proofs.FormLaws.{turned}
@@ -7,8 +6,5 @@ use Rattle.form.proofs.then_form.Given as goal
 
 abbrev pub invariant-loop-k : goal.invariant-loop-k
 invariant-loop-k l =
-    (l.k ≤ l.count) × Holds (summary_of l.d l.names l.values)
+    Holds (summary_of l.d l.names l.values)
     × (held (summary_of l.d l.names l.values) ≡ turned l.lore (held (summary_of l.initial.d l.initial.names l.initial.values)) l.closing l.tags l.parts l.k)
-
-abbrev pub decreases-loop-k : goal.decreases-loop-k
-decreases-loop-k l = l.count - l.k
