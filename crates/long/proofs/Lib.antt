@@ -11,6 +11,7 @@ pub mod DistinctLaws
 pub mod ExactLaws
 pub mod SameLaws
 pub mod UniqueLaws
+pub mod OrderedLaws
 pub mod WrittenLaws
 pub mod TurnLaws
 pub mod AnswerLaws

@@ -11,9 +11,9 @@ use Rattle.template.specs.declared.Reading.TheVariants.{Bad}
 use Rattle.template.proofs.SoundLaws.{sound_reading_of}
 use Rattle.save.proofs.UniqueLaws.{sound_entries_same}
 use Rattle.long.specs.Rules.{long_symbols}
-use Rattle.long.specs.Splits.{Shortens, SplitSays}
-use Rattle.long.specs.declared.SplitReply.{SplitReply}
-use Rattle.long.specs.declared.SplitReply.TheVariants.{Written, BadFile, TooMany, Short}
+use Rattle.std.specs.Prelude.{Ok, Err}
+use Rattle.long.specs.Splits.{Shortens, SplitReply, SplitSays}
+use Rattle.long.specs.declared.SplitRefusal.TheVariants.{BadFile, TooMany, Short}
 
 -- ---- one ordinary file
 
@@ -43,23 +43,23 @@ module _ (f out : List ℕ) where
 
 pub split_unique : (f out out' out'' : List ℕ) (r q : SplitReply) → SplitSays f out r out' → SplitSays f out q out''
     → (r ≡ q) × (out' ≡ out'')
-split_unique f out out' out'' (BadFile p) (BadFile q) (e, a) (d, b) = (ap BadFile (ap number (sym e ∙ d)), a ∙ sym b)
-split_unique f out out' out'' (BadFile p) TooMany (e, a) (s, none, b) = absurd (bad_sound f out p e s)
-split_unique f out out' out'' (BadFile p) Short (e, a) (s, fit, file, b) = absurd (bad_sound f out p e s)
-split_unique f out out' out'' (BadFile p) (Written m) (e, a) (s, fit, b) = absurd (bad_sound f out p e s)
-split_unique f out out' out'' TooMany (BadFile q) (s, none, a) (d, b) = absurd (bad_sound f out q d s)
-split_unique f out out' out'' TooMany TooMany (s, no-fit, a) (t, none, b) = (refl, a ∙ sym b)
-split_unique f out out' out'' TooMany Short (s, no-fit, a) (t, fit, file, b) = absurd (no-fit fit)
-split_unique f out out' out'' TooMany (Written m) (s, no-fit, a) (t, fit, b) = absurd (no-fit fit)
-split_unique f out out' out'' Short (BadFile q) (s, fit, file, a) (d, b) = absurd (bad_sound f out q d s)
-split_unique f out out' out'' Short TooMany (s, fit, file, a) (t, no-fit, b) = absurd (no-fit fit)
-split_unique f out out' out'' Short Short (s, fit, file, a) (t, fit', file', b) = (refl, a ∙ sym b)
-split_unique f out out' out'' Short (Written m) (s, fit, (F, x, h), a) (t, fit', (G, y, k, l, b)) =
+split_unique f out out' out'' (Err (BadFile p)) (Err (BadFile q)) (e, a) (d, b) = (ap (λ (p : ℕ). Err (BadFile p)) (ap number (sym e ∙ d)), a ∙ sym b)
+split_unique f out out' out'' (Err (BadFile p)) (Err TooMany) (e, a) (s, none, b) = absurd (bad_sound f out p e s)
+split_unique f out out' out'' (Err (BadFile p)) (Err Short) (e, a) (s, fit, file, b) = absurd (bad_sound f out p e s)
+split_unique f out out' out'' (Err (BadFile p)) (Ok m) (e, a) (s, fit, b) = absurd (bad_sound f out p e s)
+split_unique f out out' out'' (Err TooMany) (Err (BadFile q)) (s, none, a) (d, b) = absurd (bad_sound f out q d s)
+split_unique f out out' out'' (Err TooMany) (Err TooMany) (s, no-fit, a) (t, none, b) = (refl, a ∙ sym b)
+split_unique f out out' out'' (Err TooMany) (Err Short) (s, no-fit, a) (t, fit, file, b) = absurd (no-fit fit)
+split_unique f out out' out'' (Err TooMany) (Ok m) (s, no-fit, a) (t, fit, b) = absurd (no-fit fit)
+split_unique f out out' out'' (Err Short) (Err (BadFile q)) (s, fit, file, a) (d, b) = absurd (bad_sound f out q d s)
+split_unique f out out' out'' (Err Short) (Err TooMany) (s, fit, file, a) (t, no-fit, b) = absurd (no-fit fit)
+split_unique f out out' out'' (Err Short) (Err Short) (s, fit, file, a) (t, fit', file', b) = (refl, a ∙ sym b)
+split_unique f out out' out'' (Err Short) (Ok m) (s, fit, (F, x, h), a) (t, fit', (G, y, k, l, b)) =
     absurd (short_long f out F G x y h (omega arith))
-split_unique f out out' out'' (Written n) (BadFile q) (s, fit, a) (d, b) = absurd (bad_sound f out q d s)
-split_unique f out out' out'' (Written n) TooMany (s, fit, a) (t, no-fit, b) = absurd (no-fit fit)
-split_unique f out out' out'' (Written n) Short (s, fit, (F, x, h, l, a)) (t, fit', (G, y, k), b) =
+split_unique f out out' out'' (Ok n) (Err (BadFile q)) (s, fit, a) (d, b) = absurd (bad_sound f out q d s)
+split_unique f out out' out'' (Ok n) (Err TooMany) (s, fit, a) (t, no-fit, b) = absurd (no-fit fit)
+split_unique f out out' out'' (Ok n) (Err Short) (s, fit, (F, x, h, l, a)) (t, fit', (G, y, k), b) =
     absurd (short_long f out G F y x k (omega arith))
-split_unique f out out' out'' (Written n) (Written m) (s, fit, (F, x, h, l, a)) (t, fit', (G, y, k, o, b)) =
+split_unique f out out' out'' (Ok n) (Ok m) (s, fit, (F, x, h, l, a)) (t, fit', (G, y, k, o, b)) =
     let same = written_same f out F G n m x y h k in
-    (ap Written same.0, a ∙ same.1 ∙ sym b)
+    (ap (λ (n : ℕ). Ok n) same.0, a ∙ same.1 ∙ sym b)

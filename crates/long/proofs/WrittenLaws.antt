@@ -12,7 +12,7 @@ use lib.ListN.{length, get_or-eq_default}
 use Rattle.rows.specs.Tables.{Ascending, flat, sorted}
 use Rattle.rows.proofs.TableLaws.{Wide}
 use Rattle.rows.proofs.PutLaws.{sorted_length, sorted_keeps, sorted_only, sorted_wide}
-use Rattle.rows.proofs.SortLaws.{NoRepeats, sorted_ascends}
+use Rattle.rows.proofs.SortLaws.{sorted_ascends}
 use Rattle.entries.specs.Entries.{rule_symbols, width, field_tests}
 use Rattle.entries.specs.declared.Body.TheVariants.{Templates, Schema, Endings}
 use Rattle.template.specs.Layout.{first_body, name_count, nonterminals, states, schema_count, ending_count, schema_start_of, ending_start_of}
@@ -21,7 +21,6 @@ use Rattle.template.specs.Order.{SoundOf}
 use Rattle.template.proofs.SoundLaws.{SoundFileOf, sound_file_of}
 use Rattle.template.proofs.ListLaws.{part_at, schema_rules_fit, endings_fit, schema_rules_length, endings_length}
 use Rattle.template.proofs.ListLaws as lists
-use Rattle.trees.specs.Events.{Distinct, distinct_none, distinct_more}
 use Rattle.save.specs.Entries.{Entry}
 use Rattle.save.specs.Files.{Bytes, file_of}
 use Rattle.save.proofs.FileLaws.{ReadsAs, file_numbers}
@@ -35,12 +34,9 @@ use Rattle.long.proofs.PartLaws.{part_length}
 use Rattle.long.proofs.HoldLaws.{part_passes, part_byte}
 use Rattle.long.proofs.CountLaws.{all_parts_length, all-parts}
 use Rattle.long.proofs.DistinctLaws.{all_parts_distinct}
+use Rattle.long.proofs.OrderedLaws.{no_repeats}
 
 -- ---- lists
-
-no_repeats : {rows : List (List ℕ)} → Distinct rows → NoRepeats rows
-no_repeats distinct_none = tt
-no_repeats (distinct_more new rest) = (new, no_repeats rest)
 
 flat_bytes : (rows : List (List ℕ)) → ((e : List ℕ) → Memᴰ e rows → Bytes e) → Bytes (flat rows)
 unfolding flat
@@ -163,7 +159,7 @@ module _ (f : List ℕ) (given : Bytes f) (sound : SoundOf long_symbols f) (fits
       }
 
   -- it consists of bytes
-  pub rows_bytes : Bytes (flat (sorted all))
+  rows_bytes : Bytes (flat (sorted all))
   rows_bytes =
       flat_bytes (sorted all)
       (λ e m. let (i, t, h, k, d) = (row_part e).0 m in rw d (part_byte f s i t (omega (arith, long-count f s)) k fits.0))
