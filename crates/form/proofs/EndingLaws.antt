@@ -22,7 +22,7 @@ use Rattle.form.specs.declared.Flaw.TheVariants.{Unmatched, NotDerived}
 -- ---- what an ending says of a form and the piece after it
 
 abbrev pub EndingSays : List ℕ → Stack Piece → Piece → Result Unit Flaw → Type 0
-EndingSays lore form last (Ok tt) = (form ≡ bottom) × (accepts_piece lore last ≡ true)
+EndingSays lore form last (Ok _) = (form ≡ bottom) × (accepts_piece lore last ≡ true)
 EndingSays lore form last (Err Unmatched) = form ≡ bottom → ⊥
 EndingSays lore form last (Err NotDerived) = (form ≡ bottom) × (accepts_piece lore last ≡ false)
 
@@ -38,7 +38,7 @@ module _ (lore : List ℕ) where
 
   says_ending : (form : Stack Piece) (last : Piece) (r : Result Unit Flaw) → EndingSays lore form last r → ending_of lore form last ≡ r
   unfolding ending_of
-  says_ending form last (Ok tt) (e, a) = rw (e, a)
+  says_ending form last (Ok _) (e, a) = rw (e, a)
   says_ending bottom last (Err Unmatched) n = absurd (n refl)
   says_ending (push s h t) last (Err Unmatched) n = refl
   says_ending form last (Err NotDerived) (e, a) = rw (e, a)

@@ -10,6 +10,7 @@ use mathlib.Core.Logic.{◌↔◌}
 use Prim.Native.Nat.{ℕ}
 use native.Mathlib.Nat.{lt_of_lt_of_le}
 use native.Mathlib.Omega.{arith}
+use Rattle.std.specs.Prelude.{Result, Ok, Err}
 use Rattle.words.specs.Tags.{Tag, most_names}
 use Rattle.words.specs.Balance.{Balanced}
 use Rattle.words.specs.Binoid.{Laws, Value}
@@ -29,8 +30,8 @@ use Rattle.template.specs.Order.{IsSound}
 use Rattle.template.proofs.SoundLaws.{sound_file}
 use Rattle.template.proofs.GrammarLaws.{schema_rules_below, schema_names_below, endings_below}
 use Rattle.form.specs.Endings.{ending_of}
-use Rattle.form.specs.declared.Ending.{Ending}
-use Rattle.form.specs.declared.Ending.TheVariants as ending
+use Rattle.form.specs.declared.Flaw.{Flaw}
+use Rattle.form.specs.declared.Flaw.TheVariants.{Unmatched, NotDerived}
 use Rattle.schema.specs.Schemas.{schema_of, binoid_of, LoreOf}
 
 -- the laws of a sound file's binoid
@@ -56,37 +57,37 @@ module _ (f : List ℕ) (sound : IsSound f) where
 -- ---- what an answer at a page's end says of the word
 
 module _ (f : List ℕ) (w : List Tag) where
-  abbrev pub Means : Ending → Type 0
-  Means ending.Page = Valid (schema_of f) w
-  Means ending.Unmatched = Balanced w → ⊥
-  Means ending.NotDerived = Balanced w × (Valid (schema_of f) w → ⊥)
+  abbrev pub Means : Result Unit Flaw → Type 0
+  Means (Ok _) = Valid (schema_of f) w
+  Means (Err Unmatched) = Balanced w → ⊥
+  Means (Err NotDerived) = Balanced w × (Valid (schema_of f) w → ⊥)
 
   -- no two answers hold of one word
-  pub means_unique : (a b : Ending) → Means a → Means b → a ≡ b
-  means_unique ending.Page ending.Page p q = refl
-  means_unique ending.Page ending.Unmatched p q = absurd (q p.0)
-  means_unique ending.Page ending.NotDerived p q = absurd (q.1 p)
-  means_unique ending.Unmatched ending.Page p q = absurd (p q.0)
-  means_unique ending.Unmatched ending.Unmatched p q = refl
-  means_unique ending.Unmatched ending.NotDerived p q = absurd (p q.0)
-  means_unique ending.NotDerived ending.Page p q = absurd (p.1 q)
-  means_unique ending.NotDerived ending.Unmatched p q = absurd (q p.0)
-  means_unique ending.NotDerived ending.NotDerived p q = refl
+  pub means_unique : (a b : Result Unit Flaw) → Means a → Means b → a ≡ b
+  means_unique (Ok _) (Ok _) p q = refl
+  means_unique (Ok _) (Err Unmatched) p q = absurd (q p.0)
+  means_unique (Ok _) (Err NotDerived) p q = absurd (q.1 p)
+  means_unique (Err Unmatched) (Ok _) p q = absurd (p q.0)
+  means_unique (Err Unmatched) (Err Unmatched) p q = refl
+  means_unique (Err Unmatched) (Err NotDerived) p q = absurd (p q.0)
+  means_unique (Err NotDerived) (Ok _) p q = absurd (p.1 q)
+  means_unique (Err NotDerived) (Err Unmatched) p q = absurd (q p.0)
+  means_unique (Err NotDerived) (Err NotDerived) p q = refl
 
 -- ---- the two tests at a page's end, by the schema itself
 
-unfoldable pub ended_of : List ℕ → Stack Piece → Piece → Ending
-ended_of f bottom c = cond (accepted (ending_states f) c) ending.Page ending.NotDerived
-ended_of f (push s h t) c = ending.Unmatched
+unfoldable pub ended_of : List ℕ → Stack Piece → Piece → Result Unit Flaw
+ended_of f bottom c = cond (accepted (ending_states f) c) (Ok tt) (Err NotDerived)
+ended_of f (push s h t) c = Err Unmatched
 
 -- the form of a valid page
 abbrev pub PageForm : List ℕ → Stack Piece → Piece → Type 0
-PageForm f s c = ended_of f s c ≡ ending.Page
+PageForm f s c = ended_of f s c ≡ Ok tt
 
-page_decided : (e : Ending) → Dec (e ≡ ending.Page)
-page_decided ending.Page = yes refl
-page_decided ending.Unmatched = no (λ e. false≢true (cc e))
-page_decided ending.NotDerived = no (λ e. false≢true (cc e))
+page_decided : (e : Result Unit Flaw) → Dec (e ≡ Ok tt)
+page_decided (Ok _) = yes refl
+page_decided (Err Unmatched) = no (λ e. false≢true (cc e))
+page_decided (Err NotDerived) = no (λ e. false≢true (cc e))
 
 pub form_decided : (f : List ℕ) (s : Stack Piece) (c : Piece) → Dec (PageForm f s c)
 form_decided f s c = page_decided (ended_of f s c)
@@ -99,7 +100,7 @@ module _ (f : List ℕ) (sound : IsSound f) where
       piece_accepts (states f) s.few_states (schema_rules f) (ending_states f) (schema_rules_below f s) (endings_below f s) v
 
   accepted_means : {w : List Tag} {c : Piece} → Value (binoid_of f) w c → (t : Bool) → accepted (ending_states f) c ≡ t
-      → Means f w (cond t ending.Page ending.NotDerived)
+      → Means f w (cond t (Ok tt) (Err NotDerived))
   accepted_means v true e = (piece_valid v).0 e
   accepted_means v false e = (value_balanced (binoid_of f) v, λ d. false≢true (sym e ∙ (piece_valid v).1 d))
 
@@ -113,7 +114,7 @@ module _ (f : List ℕ) (sound : IsSound f) where
     pub valid_form : (s : Stack Piece) (c : Piece) → Reduced (binoid_of f) w s c → Valid (schema_of f) w ↔ PageForm f s c
     valid_form s c r =
         let m = ended_means s c r in
-        (means_unique f w (ended_of f s c) ending.Page m, λ e. subst (Means f w) e m)
+        (means_unique f w (ended_of f s c) (Ok tt) m, λ e. subst (Means f w) e m)
 
     pub valid_decided : (s : Stack Piece) (c : Piece) → Reduced (binoid_of f) w s c → Dec (Valid (schema_of f) w)
     valid_decided s c r = by (form_decided f s c)
@@ -160,7 +161,7 @@ module _ (f lore : List ℕ) (sound : IsSound f) (taught : LoreOf f lore) where
   ending_is : (s : Stack Piece) (c : Piece) → ending_of lore s c ≡ ended_of f s c
   unfolding ending_of ended_of
   ending_is bottom c =
-      ap (λ (t : Bool). cond t ending.Page ending.NotDerived)
+      ap (λ (t : Bool). cond t (Ok tt) (Err NotDerived))
       (accepts_are (states f) (schema_rules f) (ending_states f) lore taught (file_rules_below f sound) (file_names_below f sound)
       (file_endings_below f sound) c)
   ending_is (push s h t) c = refl
@@ -169,14 +170,14 @@ module _ (f lore : List ℕ) (sound : IsSound f) (taught : LoreOf f lore) where
   ending_means w s c r = subst (Means f w) (sym (ending_is s c)) (ended_means f sound w s c r)
 
   module _ (w : List Tag) (s : Stack Piece) (c : Piece) (r : Reduced (binoid_of f) w s c) where
-    ending_iff : (a : Ending) → (ending_of lore s c ≡ a) ↔ Means f w a
+    ending_iff : (a : Result Unit Flaw) → (ending_of lore s c ≡ a) ↔ Means f w a
     ending_iff a = (λ e. subst (Means f w) e (ending_means w s c r), means_unique f w (ending_of lore s c) a (ending_means w s c r))
 
-    pub ending_page : (ending_of lore s c ≡ ending.Page) ↔ Valid (schema_of f) w
-    ending_page = ending_iff ending.Page
+    pub ending_page : (ending_of lore s c ≡ Ok tt) ↔ Valid (schema_of f) w
+    ending_page = ending_iff (Ok tt)
 
-    pub ending_unmatched : (ending_of lore s c ≡ ending.Unmatched) ↔ (Balanced w → ⊥)
-    ending_unmatched = ending_iff ending.Unmatched
+    pub ending_unmatched : (ending_of lore s c ≡ Err Unmatched) ↔ (Balanced w → ⊥)
+    ending_unmatched = ending_iff (Err Unmatched)
 
-    pub ending_not_derived : (ending_of lore s c ≡ ending.NotDerived) ↔ (Balanced w × (Valid (schema_of f) w → ⊥))
-    ending_not_derived = ending_iff ending.NotDerived
+    pub ending_not_derived : (ending_of lore s c ≡ Err NotDerived) ↔ (Balanced w × (Valid (schema_of f) w → ⊥))
+    ending_not_derived = ending_iff (Err NotDerived)
