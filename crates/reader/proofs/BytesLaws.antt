@@ -6,8 +6,7 @@ use Prim.Native.Nat.{ℕ, suc, ◌+◌, ◌≤◌, ◌<◌}
 use native.Mathlib.Numerals.{add-one}
 use native.Mathlib.Omega.{arith}
 use borrow.Author.Rules.{rules}
-use types.Run.{OneOf, miss}
-use denote.Enum.Declared.{tag_of}
+use Rattle.std.specs.Prelude.{Result, Ok, Err}
 use lib.ListN.{length, get_or, take, drop}
 use lib.Seq.{length-take-le, take_all, take-suc, split_at}
 use Rattle.words.specs.Tags.{Tag, Spells}
@@ -25,9 +24,8 @@ use Rattle.form.specs.declared.Summary.{Summary}
 use Rattle.reader.specs.Reads.{Reason, whole, refused}
 use Rattle.reader.specs.Reads.{Form, Refused, by_no_tag, AllReadable, Reads, reads_all, reads_to}
 use Rattle.reader.specs.Feeds.{Fed, Progressed}
-use Rattle.reader.specs.declared.Progress.{Progress}
-use Rattle.reader.specs.declared.Progress.TheVariants as progress
-use Rattle.reader.specs.contracts.Progress.{the_type}
+use Rattle.reader.specs.declared.Stop.{Stop}
+use Rattle.reader.specs.declared.Stop.TheVariants.{NotATag, Mismatch, TooDeep}
 use Rattle.reader.proofs.FormLaws.{form_empty}
 use Rattle.reader.proofs.ReadsLaws.{all_readable_none}
 use Rattle.reader.proofs.NextLaws.{AfterByte, after_step}
@@ -75,7 +73,7 @@ module _ (known : ℕ) (lore bytes : List ℕ) where
   -- end
 
   pub so_far_end : (i : ℕ) (c : Counts) (names values : List ℕ) → SoFar known lore bytes i c names values → length bytes ≤ i
-      → Progressed (progress.Read c) names values (Reads known (pieces lore) most_tags bytes)
+      → Progressed (Ok c) names values (Reads known (pieces lore) most_tags bytes)
   so_far_end i c names values t l =
       let s = summary_of c names values in (
         t.holds,
@@ -94,9 +92,9 @@ module _ (known : ℕ) (lore bytes : List ℕ) where
     after_byte p o q =
         after_step known (pieces lore) most_tags (pieces_laws lore is) (take i bytes) (get_or bytes i 0) t.readable t.form p o q
 
-    pub so_far_next : (f : Progress) (d : Counts)
+    pub so_far_next : (f : Result Counts Stop) (d : Counts)
         → Fed f names' values' (after_tag lore (summary_of c names values)) known (get_or bytes i 0) i
-        → f ≡ progress.Read d → SoFar known lore bytes (i + 1) d names' values'
+        → f ≡ Ok d → SoFar known lore bytes (i + 1) d names' values'
     so_far_next f d g q =
         let (u, p, o, h) = rw q at g in
         let (r, m) = after_byte p (held (summary_of d names' values')) o in
@@ -107,15 +105,14 @@ module _ (known : ℕ) (lore bytes : List ℕ) where
           form = subst (λ x. FormIn known lore x (summary_of d names' values')) e m;
         }
 
-    -- the byte ends the reading: its step is one of the variants behind the first, and is the run's
-    pub so_far_refused : (f : Progress) → Fed f names' values' (after_tag lore (summary_of c names values)) known (get_or bytes i 0) i
-        → OneOf (1 ∷ 2 ∷ 3 ∷ []) (tag_of the_type f) → Progressed f names' values' (Reads known (pieces lore) most_tags bytes)
-    so_far_refused (progress.Read d) g n = absurd (miss (1 ∷ 2 ∷ 3 ∷ []) 0 tt n)
-    so_far_refused (progress.NotATag k) (e, g) n =
+    -- the byte ends the reading
+    pub so_far_refused : (e : Stop) → Fed (Err e) names' values' (after_tag lore (summary_of c names values)) known (get_or bytes i 0) i
+        → Progressed (Err e) names' values' (Reads known (pieces lore) most_tags bytes)
+    so_far_refused (NotATag k) (e, g) =
         rw e (refused_at bytes i l known (pieces lore) most_tags t.readable (by_no_tag (take i bytes) (get_or bytes i 0) g))
-    so_far_refused (progress.Mismatch k) (e, (u, p, (x, y, o))) n =
+    so_far_refused (Mismatch k) (e, (u, p, (x, y, o))) =
         rw e (refused_at bytes i l known (pieces lore) most_tags t.readable (after_byte p (differs x y) o))
-    so_far_refused (progress.TooDeep k) (e, (u, p, o)) n =
+    so_far_refused (TooDeep k) (e, (u, p, o)) =
         rw e (refused_at bytes i l known (pieces lore) most_tags t.readable (after_byte p too_deep o))
 
 pub ruleset readings = (so_far_none, so_far_end, so_far_next, so_far_refused, rules)

@@ -9,25 +9,23 @@ ghost use Rattle.pieces.specs.Pieces.{most_tags, piece_at, pieces};
 ghost use Rattle.form.specs.Held.{summary_of, Holds};
 ghost use Rattle.form.specs.Steps.{after_tag};
 ghost use Rattle.reader.specs.Reads.{Reads};
-ghost use Rattle.reader.specs.Feeds.{progress_of, Fed, Progressed};
+ghost use Rattle.reader.specs.Feeds.{stop_at, Fed, Progressed};
 
-// How far reading came: all was read, with so many ends and starts; or it ended at a place.
-#[derive(Clone, Copy)]
-pub enum Progress {
-    Read(form::Counts),
+// Why reading ended, and at which place.
+#[derive(Clone, Copy, Debug, PartialEq, Eq)]
+pub enum Stop {
     NotATag(usize),
     Mismatch(usize),
     TooDeep(usize),
 }
 
-// A tag's step, at its place.
-fn progressed(t: form::Step, at: usize) -> Progress
-    ensures { result ≡ progress_of t at }
+// The refusal of a tag, at its place.
+fn stop_at(clash: form::Clash, at: usize) -> Stop
+    ensures { result ≡ stop_at clash at }
 {
-    match t {
-        form::Step::Kept(c) => Progress::Read(c),
-        form::Step::Mismatch(_, _) => Progress::Mismatch(at),
-        form::Step::TooDeep => Progress::TooDeep(at),
+    match clash {
+        form::Clash::Mismatch(_, _) => Stop::Mismatch(at),
+        form::Clash::TooDeep => Stop::TooDeep(at),
     }
 }
 
@@ -40,24 +38,18 @@ fn then_byte(
     known: u8,
     byte: u8,
     at: usize,
-) -> Progress
+) -> Result<form::Counts, Stop>
     requires lore { IsLore most_states lore.now }
     requires holds { Holds (summary_of c names.old values.old) }
     ensures { Fed result names.new values.new
         (after_tag lore.now (summary_of c names.old values.old)) known byte at }
 {
-    let class = words::class_of(known, byte);
-    match class {
-        Some(words::Tag::Start(a)) => {
-            let t = form::then_tag(lore, names, values, c, false, a);
-            progressed(t, at)
-        }
-        Some(words::Tag::End(a)) => {
-            let t = form::then_tag(lore, names, values, c, true, a);
-            progressed(t, at)
-        }
-        None => Progress::NotATag(at),
-    }
+    let tag = words::class_of(known, byte).ok_or(Stop::NotATag(at))?;
+    let step = match tag {
+        words::Tag::Start(a) => form::then_tag(lore, names, values, c, false, a),
+        words::Tag::End(a) => form::then_tag(lore, names, values, c, true, a),
+    };
+    step.map_err(|clash| stop_at(clash, at))
 }
 
 // Reads the bytes one by one into the arrays, which hold the empty word.
@@ -67,7 +59,7 @@ pub fn read_bytes(
     values: &mut [u64; pieces::PIECES],
     known: u8,
     bytes: &[u8],
-) -> Progress
+) -> Result<form::Counts, Stop>
     requires lore { IsLore most_states lore.now }
     requires holds { Holds (summary_of (record { ends = 0; starts = 0 }) names.old values.old) }
     requires values_value { piece_at values.old 0 ≡ (pieces lore.now).unit }
@@ -75,14 +67,8 @@ pub fn read_bytes(
         (Reads known (pieces lore.now) most_tags bytes.now) }
 {
     let mut c = form::counted(0, 0);
-    let mut i = 0;
-    while i < bytes.len() {
-        let p = then_byte(lore, names, values, c, known, bytes[i], i);
-        let Progress::Read(d) = p else {
-            return p;
-        };
-        c = d;
-        i += 1;
+    for (i, byte) in bytes.iter().enumerate() {
+        c = then_byte(lore, names, values, c, known, *byte, i)?;
     }
-    Progress::Read(c)
+    Ok(c)
 }
