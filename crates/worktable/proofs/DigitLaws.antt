@@ -15,8 +15,8 @@ use mir.Syntax.{w64}
 use mir.Val.{Fits}
 use borrow.Author.Rules.{rules}
 use Rattle.pieces.specs.declared.Piece.{Piece}
-use Rattle.pieces.specs.Pieces.{most_tags, most_pieces, piece_at, AllCounted}
-use Rattle.worktable.specs.Packed.{numbers_from, digits_in, eight_names, relations_in, outermost_in, name_in}
+use Rattle.pieces.specs.Pieces.{most_pieces, piece_at, AllCounted}
+use Rattle.worktable.specs.Packed.{numbers_from, digits_in, relations_in, outermost_in}
 use Rattle.rows.proofs.MoveLaws.{zero_entries}
 
 -- ---- as a list
@@ -134,29 +134,7 @@ module _ (w n : ℕ) (at : ℕ → ℕ) (k : ℕ) where
         let m : n - 0 ≡ n = omega arith in
         rw (z, y, m) at f.digits
 
--- ---- in the words of the code: names, eight to an entry
-
-abbrev pub NamesFrom : List ℕ → ℕ → ℕ → ℕ → Type 0
-NamesFrom names k = From 8 8 (λ i. get_or names i 0) k
-
-module _ (names : List ℕ) (k : ℕ) where
-  pub bytes_none : NamesFrom names k 8 0
-  bytes_none = from_none 8 8 (λ i. get_or names i 0) k
-
-  module _ (i r : ℕ) (f : NamesFrom names k i r) where
-    pub bytes_fit_more : (b : ℕ) → 0 < i → b < 256 → Fits w64 (r * 256 + b)
-    bytes_fit_more b h below = from_fits 8 8 (λ i. get_or names i 0) k i r f h b below (omega arith)
-
-    pub bytes_fit : 0 < i → Fits w64 (r * 256)
-    bytes_fit h = record { fits = omega (arith, (bytes_fit_more 0 h (omega arith)).fits) }
-
-    pub bytes_next : (b : ℕ) → 0 < i → b < 256 → b ≡ get_or names (k + (i - 1)) 0 → NamesFrom names k (i - 1) (r * 256 + b)
-    bytes_next b h below e = from_next 8 8 (λ i. get_or names i 0) k i r f h b below e
-
-    pub bytes_end : i ≤ 0 → r ≡ eight_names names k
-    bytes_end h = from_end 8 8 (λ i. get_or names i 0) k i r f h
-
--- the counts of outermost elements
+-- ---- in the words of the code: the counts of outermost elements
 
 abbrev pub CountsFrom : List ℕ → ℕ → ℕ → Type 0
 CountsFrom values = From 2 most_pieces (λ k. (piece_at values k).outermost) 0
@@ -186,19 +164,7 @@ module _ (values : List ℕ) (all : AllCounted values) where
 pub counts_end : (values : List ℕ) (i r : ℕ) → CountsFrom values i r → i ≤ 0 → r ≡ outermost_in values
 counts_end values i r f h = from_end 2 most_pieces (λ k. (piece_at values k).outermost) 0 i r f h
 
--- the names of a row, and the relations of a form
-
-pub named_none : (row : List ℕ) → zero_entries most_tags ≡ numbers_from (name_in row) 0 0 ++ zero_entries (most_tags - 0)
-named_none row = numbers_none (name_in row) most_tags
-
-module _ (row names : List ℕ) (k : ℕ) (so_far : names ≡ numbers_from (name_in row) 0 k ++ zero_entries (most_tags - k)) where
-  pub named_next : k < most_tags → set names k (get_or row (1 + k / 8) 0 / 2 ^ (k % 8 * 8) % 256)
-      ≡ numbers_from (name_in row) 0 (k + 1) ++ zero_entries (most_tags - (k + 1))
-  unfolding name_in
-  named_next h = numbers_next (name_in row) most_tags names k so_far h
-
-  pub named_end : most_tags ≤ k → k ≤ most_tags → names ≡ numbers_from (name_in row) 0 most_tags
-  named_end h l = numbers_end (name_in row) most_tags names k so_far h l
+-- the relations of a form
 
 abbrev pub relation_at : List ℕ → ℕ → ℕ
 relation_at values k = (piece_at values k).relation
@@ -215,19 +181,11 @@ module _ (values relations : List ℕ) (k : ℕ) (so_far : relations ≡ numbers
   related_end h l = numbers_end (relation_at values) most_pieces relations k so_far h l
 
 pub ruleset digits = (
-  bytes_none,
-  bytes_fit,
-  bytes_fit_more,
-  bytes_next,
-  bytes_end,
   counts_none,
   counts_fit,
   counts_fit_more,
   counts_next,
   counts_end,
-  named_none,
-  named_next,
-  named_end,
   related_none,
   related_next,
   related_end,
