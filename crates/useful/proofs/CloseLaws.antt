@@ -1,7 +1,7 @@
 -- Where the passes come to an end: a pass that adds no mark has kept every rule, so the marks are all that derive a string, and all that
 -- are reached (MarkLaws of trees). And the laws that `search passes` chains, in the words in which the code has its facts.
 -- Assumes nothing.
-use mathlib.Core.Path.{◌≡◌, sym, ◌∙◌}
+use mathlib.Core.Path.{◌≡◌, refl, sym, ◌∙◌}
 use mathlib.Core.Bool.{true, false≢true}
 use mathlib.Core.List.{List}
 use Prim.Native.Nat.{ℕ, ◌*◌, ◌%◌, ◌^◌, ◌<◌}
@@ -14,10 +14,10 @@ use Rattle.numbers.proofs.BitLaws.{bit_past, bit_pow, shl_one}
 use Rattle.template.specs.Grammar.{Gives}
 use Rattle.trees.specs.Trees.{Reached, start_reached}
 use Rattle.trees.proofs.MarkLaws.{HasTree, productive_each, all_map, marked_productive, marks_productive, marks_reached}
-use Rattle.useful.specs.Marks.{RulesInRange, MarksAll, Justified, PassedUp, PassedDown, with_mark}
+use Rattle.useful.specs.Marks.{RulesInRange, MarksAll, Justified, Saturated, PassedUp, PassedDown, with_mark}
 use Rattle.trees.specs.Trees.{Productive}
 use Rattle.useful.proofs.SlotLaws.{Marked, marked_each, slot_in, slot_past, slot_low, slot_free}
-use Rattle.useful.proofs.PassLaws.{passed_none, passed_next, passed_end, passed_stays, passed_justified, passed_less}
+use Rattle.useful.proofs.PassLaws.{steps_keep}
 use Rattle.useful.proofs.StepLaws.{left_small, all_marked_tests, step_up_on, step_up_off}
 use Rattle.useful.proofs.StepLaws.{step_down_on, step_down_left_off, step_down_right_off}
 
@@ -34,11 +34,14 @@ module _ (rules : List ℕ) where
   nothing_justified =
       record { reason = λ x m. absurd (false≢true (sym (bit_past 0 0 x (omega arith) (omega arith)) ∙ m)) }
 
-  pub productive_marked : (marks next : ℕ) → PassedUp rules marks next → next ≡ marks → Justified (Productive (Gives rules)) marks
-      → MarksAll marks (Productive (Gives rules))
-  productive_marked marks next p e f x h =
+  pub productive_saturated : (R : ℕ → ℕ → Type 0) → ((m next : ℕ) → R m next → PassedUp rules m next) → (marks : ℕ)
+      → Saturated R 0 marks → MarksAll marks (Productive (Gives rules))
+  productive_saturated R pass marks s x h =
+      let kept = (pass marks marks s.still).kept refl in
+      let justified = steps_keep (λ i. R) 0 (Justified (Productive (Gives rules))) (λ i m m' r f. (pass m m' r).justified f) s.passes marks
+      s.path nothing_justified in
       marks_productive (Gives rules) (Marked marks)
-      (λ y rhs (i, hi, el, er) a. rw (← el) ((p.kept e).each i hi (rw er ((marked_each marks rhs).1 a)))) f.reason x
+      (λ y rhs (i, hi, el, er) a. rw (← el) (kept.each i hi (rw er ((marked_each marks rhs).1 a)))) justified.reason x
 
   -- ---- downward: at first the start is marked
 
@@ -54,17 +57,21 @@ module _ (rules : List ℕ) where
   productive_below in_range x t =
       marked_productive (Gives rules) (λ x. x < 64) (λ y rhs (i, hi, el, er) a. rw (← el) (in_range.left_below i hi)) x t
 
-  pub reached_marked : (productive marks next : ℕ) → RulesInRange rules → MarksAll productive (Productive (Gives rules))
-      → PassedDown rules productive marks next → next ≡ marks → bit marks 0 ≡ true → Justified (Reached (Gives rules)) marks
-      → MarksAll marks (Reached (Gives rules))
-  reached_marked productive marks next in_range all p e z f x h =
-      let G = Gives rules in
-      marks_reached G (Marked marks) z
-      (λ y rhs m (i, hi, el, er) t.
-      let trees = (productive_each G rhs).0 t in
-      let a = all_map (HasTree G) (Marked productive) (λ x u. (all x (productive_below in_range x u)).1 u) rhs trees in
-      let b = (p.kept e).each i hi (rw el m) (rw er ((marked_each productive rhs).1 a)) in
-      (marked_each marks rhs).0 (rw er at b)) f.reason x
+  module _ (productive : ℕ) (in_range : RulesInRange rules) (all : MarksAll productive (Productive (Gives rules))) where
+    pub reached_saturated : (R : ℕ → ℕ → Type 0) → ((m next : ℕ) → R m next → PassedDown rules productive m next) → (marks : ℕ)
+        → Saturated R 1 marks → MarksAll marks (Reached (Gives rules))
+    reached_saturated R pass marks s x h =
+        let G = Gives rules in
+        let kept = (pass marks marks s.still).kept refl in
+        let start = steps_keep (λ i. R) 1 (λ m. bit m 0 ≡ true) (λ i m m' r t. (pass m m' r).stay 0 t) s.passes marks s.path start_marked in
+        let justified = steps_keep (λ i. R) 1 (Justified (Reached G)) (λ i m m' r f. (pass m m' r).justified f) s.passes marks
+        s.path start_justified in
+        marks_reached G (Marked marks) start
+        (λ y rhs m (i, hi, el, er) t.
+        let trees = (productive_each G rhs).0 t in
+        let a = all_map (HasTree G) (Marked productive) (λ x u. (all x (productive_below in_range x u)).1 u) rhs trees in
+        let b = kept.each i hi (rw el m) (rw er ((marked_each productive rhs).1 a)) in
+        (marked_each marks rhs).0 (rw er at b)) justified.reason x
 
 pub ruleset passes = (
   slot_in,
@@ -79,16 +86,5 @@ pub ruleset passes = (
   step_down_on,
   step_down_left_off,
   step_down_right_off,
-  passed_none,
-  passed_next,
-  passed_end,
-  passed_stays,
-  passed_justified,
-  passed_less,
-  nothing_justified,
-  productive_marked,
-  start_marked,
-  start_justified,
-  reached_marked,
   rules,
 )

@@ -4,7 +4,8 @@
 use mathlib.Core.Path.{◌≡◌, refl}
 use mathlib.Core.Logic.{⊎_elim}
 use mathlib.Core.Bool.{Bool, true, false, or-true, ◌||◌}
-use Prim.Native.Nat.{ℕ, ◌+◌, ◌^◌, ◌-◌, ◌≤◌, ◌<◌}
+use Prim.Native.Nat.{ℕ, zero, suc, ◌+◌, ◌^◌, ◌-◌, ◌≤◌, ◌<◌}
+use native.Mathlib.Numerals.{add-one}
 use native.Mathlib.Decide.{dec_lt}
 use native.Mathlib.Omega.{arith}
 use lib.Bits.{or_add_and, and_le_r}
@@ -13,7 +14,7 @@ use borrow.Author.Tests.{eqb-true, eq-eqb, lt-ltb, le-leb, lt-leb}
 use Rattle.numbers.specs.Bits.{bit}
 use Rattle.numbers.proofs.TestLaws.{or_out}
 use Rattle.numbers.proofs.BitLaws.{bit-or, bit_pow}
-use Rattle.useful.specs.Marks.{Justified, Passed, KeptBelow, at_slot, with_mark, with_slot}
+use Rattle.useful.specs.Marks.{StepsTo, Justified, Passed, KeptBelow, at_slot, with_mark, with_slot}
 use Rattle.useful.proofs.SlotLaws.{Marked, Slot, slot_unused}
 
 -- ---- the bits of one mark more
@@ -65,22 +66,15 @@ module _ (P : ℕ → Type 0) where
       })
       (passed_both (KeptBelow Kept n) (Kept n) marks m next p q)
 
-  pub passed_end : (Kept : ℕ → ℕ → Type 0) (n k marks next : ℕ) → Passed P (KeptBelow Kept n) marks next → n ≤ k → k ≤ n
-      → Passed P (KeptBelow Kept k) marks next
-  passed_end Kept n k marks next p h h' = let e : n ≡ k = omega arith in rw e at p
-
-  -- ---- passes until one adds no mark
-
-  module _ (Kept : ℕ → Type 0) (marks next : ℕ) (p : Passed P Kept marks next) where
-    pub passed_stays : (x : ℕ) → bit marks x ≡ true → bit next x ≡ true
-    passed_stays x m = p.stay x m
-
-    pub passed_justified : Justified P marks → Justified P next
-    passed_justified f = p.justified f
-
-    pub passed_less : (next ≡ marks → ⊥) → marks < 18446744073709551616
-        → 18446744073709551616 - next < 18446744073709551616 - marks
-    passed_less n h = omega (arith, p.grow)
+  -- a step at each of the n first rules
+  pub steps_passed : (Kept : ℕ → ℕ → Type 0) (R : ℕ → ℕ → ℕ → Type 0) (n marks next : ℕ)
+      → ((i m m' : ℕ) → i < n → R i m m' → Passed P (Kept i) m m') → StepsTo R n marks next → Passed P (KeptBelow Kept n) marks next
+  unfolding StepsTo
+  steps_passed Kept R zero marks next each e = rw e (passed_none Kept marks)
+  steps_passed Kept R (suc n) marks next each (m, path, step) =
+      rw (← add-one n)
+      (passed_next Kept n marks m next (steps_passed Kept R n marks m (λ i m m' h r. each i m m' (omega arith) r) path)
+      (each n m next (omega arith) step))
 
   -- ---- one mark more, and the nonterminal of a place
 
@@ -107,3 +101,20 @@ module _ (P : ℕ → Type 0) where
             (passed_map (λ m. Marked m (b - 64)) (λ m. Slot (Marked m) true b) marks (with_mark marks (b - 64)) (λ m u h. m)
             (mark_passed marks (b - 64) (λ j. f j refl (omega arith))))
       ]
+
+-- ---- steps one after the other
+
+module _ (R : ℕ → ℕ → ℕ → Type 0) (marks : ℕ) where
+  pub steps_none : StepsTo R 0 marks marks
+  unfolding StepsTo
+  steps_none = refl
+
+  pub steps_next : (n m next : ℕ) → StepsTo R n marks m → R n m next → StepsTo R (n + 1) marks next
+  unfolding StepsTo
+  steps_next n m next path step = rw add-one (m, path, step)
+
+  -- what each step keeps, all of them keep
+  pub steps_keep : (P : ℕ → Type 0) → ((i m m' : ℕ) → R i m m' → P m → P m') → (n next : ℕ) → StepsTo R n marks next → P marks → P next
+  unfolding StepsTo
+  steps_keep P each zero next e p = rw e p
+  steps_keep P each (suc n) next (m, path, step) p = each n m next step (steps_keep P each n m path p)

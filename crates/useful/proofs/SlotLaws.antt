@@ -3,7 +3,8 @@
 -- of a place says that its nonterminal is marked. Assumes nothing.
 use mathlib.Core.Path.{◌≡◌, refl}
 use mathlib.Core.Logic.{◌↔◌}
-use mathlib.Core.Bool.{Bool, true, false, false≢true}
+use mathlib.Core.Bool.{Bool, true, false, false≢true, ◌&&◌}
+use Rattle.std.specs.Prelude.{cond, leb, Some, None}
 use mathlib.Core.List.{List, [], ◌∷◌, map}
 use Prim.Native.Nat.{ℕ, zero, suc, ◌-◌, ◌≤◌, ◌<◌}
 use native.Mathlib.Decide.{dec_lt}
@@ -104,3 +105,22 @@ module _ (A : Type 0) (b : ℕ) (x y : A) where
   pub slot_free : (used : Bool) → used ≡ false → y ≡ at_slot used b x y
   unfolding at_slot
   slot_free used off = rw off
+
+-- ---- what the code makes of the nonterminal at a place
+
+cond_some : (A : Type 0) (t : Bool) (x z : ℕ) (f : ℕ → A) (y : A) → Some x ≡ cond t (Some z) None → f x ≡ cond t (f z) y
+cond_some A true x z f y e = cc
+cond_some A false x z f y e = cc
+
+cond_none : (A : Type 0) (t : Bool) (z : ℕ) (f : ℕ → A) (y : A) → None ≡ cond t (Some z) None → y ≡ cond t (f z) y
+cond_none A true z f y e = cc
+cond_none A false z f y e = refl
+
+module _ (A : Type 0) (used : Bool) (b : ℕ) (f : ℕ → A) (y : A) where
+  pub slot_some : (x : ℕ) → Some x ≡ at_slot used b (Some (b - 64)) None → f x ≡ at_slot used b (f (b - 64)) y
+  unfolding at_slot
+  slot_some x e = cond_some A (used && (leb 64 b && ltb b 128)) x (b - 64) f y e
+
+  pub slot_none : None ≡ at_slot used b (Some (b - 64)) None → y ≡ at_slot used b (f (b - 64)) y
+  unfolding at_slot
+  slot_none e = cond_none A (used && (leb 64 b && ltb b 128)) (b - 64) f y e

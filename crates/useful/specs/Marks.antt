@@ -1,6 +1,6 @@
 -- Marks of nonterminals as the bits of a number, and the rules as they are lent. Rules, sections 2 and 4: there are at most 64
 -- nonterminals, and a symbol from 64 on that the rule's length counts is one.
-use Rattle.std.specs.Prelude.{◌≡◌, Bool, true, ◌&&◌, cond, List, [], ◌∷◌, ◌↔◌, ℕ, ◌-◌, ◌/◌, ◌^◌, ◌≤◌, ◌<◌, ltb, leb, length}
+use Rattle.std.specs.Prelude.{◌≡◌, Bool, true, ◌&&◌, cond, List, [], ◌∷◌, ◌↔◌, ℕ, zero, suc, ◌-◌, ◌/◌, ◌^◌, ◌≤◌, ◌<◌, ltb, leb, length}
 use Rattle.std.specs.Int.Bits.{bit_or}
 use Rattle.numbers.specs.Fields.{field}
 use Rattle.numbers.specs.Bits.{bit}
@@ -52,6 +52,17 @@ pub record Passed (P Kept : ℕ → Type 0) (marks next : ℕ) : Type 0 where
 -- the n first rules are kept
 pub record KeptBelow (Kept : ℕ → ℕ → Type 0) (n marks : ℕ) : Type 0 where
   pub each : (i : ℕ) → i < n → Kept i marks
+
+-- n steps, one after the other, lead from marks to next: the i-th by the relation of i
+unfoldable pub StepsTo : (ℕ → ℕ → ℕ → Type 0) → ℕ → ℕ → ℕ → Type 0
+StepsTo R zero marks next = next ≡ marks
+StepsTo R (suc n) marks next = (m : ℕ) × StepsTo R n marks m × R n m next
+
+-- so many passes lead from marks to next, and one more adds none
+pub record Saturated (R : ℕ → ℕ → Type 0) (marks next : ℕ) : Type 0 where
+  pub passes : ℕ
+  pub path : StepsTo (λ i. R) passes marks next
+  pub still : R next next
 
 -- where its right side is all marked, the rule's left side is marked
 abbrev pub KeptUp : List ℕ → ℕ → ℕ → Type 0

@@ -2,11 +2,11 @@
 // number, for there are at most 64 nonterminals. Passes over the rules go on until one adds no mark.
 #![tactic(auto)]
 
-ghost use Rattle.std.specs.Prelude.{◌≡◌, true, ◌↔◌, ◌/◌, ◌<◌, length};
+ghost use Rattle.std.specs.Prelude.{◌≡◌, true, ◌↔◌, ℕ, ◌-◌, ◌/◌, ◌<◌, ◌≤◌, length, Some, None, IfSome};
 ghost use Rattle.numbers.specs.Bits.{bit};
 ghost use Rattle.template.specs.Grammar.{right_side, Gives};
 ghost use Rattle.trees.specs.Trees.{Reached};
-ghost use Rattle.useful.specs.Marks.{slot_marked, with_mark, with_slot, RulesInRange, AllMarked, MarksAll, Passed};
+ghost use Rattle.useful.specs.Marks.{at_slot, slot_marked, with_mark, with_slot, RulesInRange, AllMarked, MarksAll, Passed, StepsTo, Saturated};
 ghost use Rattle.trees.specs.Trees.{Productive};
 ghost use Rattle.useful.specs.Marks.{KeptUp, KeptDown, PassedUp, PassedDown};
 
@@ -26,18 +26,26 @@ pub fn mark(marks: u64, x: usize) -> u64
     marks | (1u64 << x)
 }
 
+// The nonterminal at a place of a right side, if one stands there.
+fn nonterminal_at(used: bool, byte: usize) -> Option<usize>
+    ensures value { result ≡ at_slot used byte (Some (byte - 64)) None }
+    ensures below { IfSome result (λ x. x < 64) }
+{
+    if used && 64 <= byte && byte < 128 {
+        Some(byte - 64)
+    } else {
+        None
+    }
+}
+
 // Is the symbol at a place no nonterminal, or a marked one?
 fn symbol_marked(used: bool, byte: usize, marks: u64) -> bool
     ensures { result ≡ slot_marked used byte marks }
 {
-    if used {
-        if 64 <= byte {
-            if byte < 128 {
-                return marked(marks, byte - 64);
-            }
-        }
+    match nonterminal_at(used, byte) {
+        Some(x) => marked(marks, x),
+        None => true,
     }
-    true
 }
 
 // Are all nonterminals of rule i's right side marked?
@@ -63,28 +71,27 @@ fn step_up(rules: &[u8], i: usize, marks: u64) -> u64
     marks
 }
 
-// One pass: the left side of each rule whose right side is all marked.
-fn pass_up(rules: &[u8], marks: u64) -> u64
-    requires { RulesInRange rules.now }
-    ensures { PassedUp rules.now marks result }
+// A pass: a step at each rule, one after the other.
+fn pass<F: Fn(usize, u64) -> u64>(rules: &[u8], step: F, marks: u64) -> u64
+    requires { (i m : ℕ) → i < length rules.now / 4 → F.pre step i m }
+    ensures { StepsTo (F.post step) (length rules.now / 4) marks result }
 {
     let mut m = marks;
-    let mut i = 0;
-    while i < rules.len() / 4 {
-        m = step_up(rules, i, m);
-        i += 1;
+    for i in 0..rules.len() / 4 {
+        m = step(i, m);
     }
     m
 }
 
-// The nonterminals that derive some tag string.
-pub fn productive(rules: &[u8]) -> u64
-    requires { RulesInRange rules.now }
-    ensures { MarksAll result (Productive (Gives rules.now)) }
+// Passes go on until one adds no mark.
+fn saturate<F: Fn(u64) -> u64>(pass: F, marks: u64) -> u64
+    requires callable { F.IsAlwaysCallable pass }
+    requires grows { (m next : ℕ) → F.post pass m next → m ≤ next }
+    ensures { Saturated (F.post pass) marks result }
 {
-    let mut m = 0u64;
+    let mut m = marks;
     loop {
-        let next = pass_up(rules, m);
+        let next = pass(m);
         if next == m {
             return m;
         }
@@ -92,18 +99,30 @@ pub fn productive(rules: &[u8]) -> u64
     }
 }
 
+// One pass: the left side of each rule whose right side is all marked.
+fn pass_up(rules: &[u8], marks: u64) -> u64
+    requires { RulesInRange rules.now }
+    ensures { PassedUp rules.now marks result }
+{
+    pass(rules, |i, m| step_up(rules, i, m), marks)
+}
+
+// The nonterminals that derive some tag string.
+pub fn productive(rules: &[u8]) -> u64
+    requires { RulesInRange rules.now }
+    ensures { MarksAll result (Productive (Gives rules.now)) }
+{
+    saturate(|m| pass_up(rules, m), 0)
+}
+
 // The marks with the nonterminal of a symbol, where it is one.
 fn mark_symbol(used: bool, byte: usize, marks: u64) -> u64
     ensures { result ≡ with_slot used byte marks }
 {
-    if used {
-        if 64 <= byte {
-            if byte < 128 {
-                return mark(marks, byte - 64);
-            }
-        }
+    match nonterminal_at(used, byte) {
+        Some(x) => mark(marks, x),
+        None => marks,
     }
-    marks
 }
 
 // The marks with the nonterminals of rule i's right side, where its left side is marked and its right side is productive.
@@ -129,13 +148,7 @@ fn pass_down(rules: &[u8], productive: u64, marks: u64) -> u64
     requires marks_all { MarksAll productive (Productive (Gives rules.now)) }
     ensures { PassedDown rules.now productive marks result }
 {
-    let mut m = marks;
-    let mut i = 0;
-    while i < rules.len() / 4 {
-        m = step_down(rules, productive, i, m);
-        i += 1;
-    }
-    m
+    pass(rules, |i, m| step_down(rules, productive, i, m), marks)
 }
 
 // The nonterminals that the start reaches by rules in which each nonterminal derives some string.
@@ -144,12 +157,5 @@ pub fn reached(rules: &[u8], productive: u64) -> u64
     requires marks_all { MarksAll productive (Productive (Gives rules.now)) }
     ensures { MarksAll result (Reached (Gives rules.now)) }
 {
-    let mut m = 1u64;
-    loop {
-        let next = pass_down(rules, productive, m);
-        if next == m {
-            return m;
-        }
-        m = next;
-    }
+    saturate(|m| pass_down(rules, productive, m), 1)
 }

@@ -2,8 +2,5 @@
 use Rattle.useful.proofs.CloseLaws.{passes}
 use Rattle.useful.proofs.mark.Goals as goal
 
-pub overflow_shl-result : goal.overflow_shl-result
-overflow_shl-result c = search passes
-
 pub returns : goal.returns
 returns c = search passes

@@ -1,23 +1,13 @@
--- Each way through the three tests is a case of the definition. Assumes nothing.
-use Rattle.useful.specs.Marks.{with_slot}
-use Rattle.useful.proofs.CloseLaws.{passes}
+-- The mark is of the nonterminal at the place, if one stands there (SlotLaws). Assumes nothing.
+use Rattle.std.proofs.Common.{ℕ, ◌∙◌}
+use Rattle.useful.specs.Marks.{with_mark, with_slot}
+use Rattle.useful.proofs.SlotLaws.{slot_some, slot_none}
 use Rattle.useful.proofs.mark_symbol.Goals as goal
 
-pub mark-requires : goal.mark-requires
-mark-requires c = search passes
-
-pub returns-then-byte-lt128 : goal.returns-then-byte-lt128
+pub returns-in-Some : goal.returns-in-Some
 unfolding with_slot
-returns-then-byte-lt128 c = search passes
+returns-in-Some c = c.mark.ensures ∙ slot_some ℕ _ _ (with_mark c.args.marks) c.args.marks _ c.in-Some.ensures.value
 
-pub returns-else-byte-lt128 : goal.returns-else-byte-lt128
+pub returns-in-None : goal.returns-in-None
 unfolding with_slot
-returns-else-byte-lt128 c = search passes
-
-pub returns-else-byte-ge64 : goal.returns-else-byte-ge64
-unfolding with_slot
-returns-else-byte-ge64 c = search passes
-
-pub returns-else-used : goal.returns-else-used
-unfolding with_slot
-returns-else-used c = search passes
+returns-in-None c = slot_none ℕ _ _ (with_mark c.args.marks) c.args.marks c.in-None.ensures.value

@@ -3,9 +3,6 @@ use Rattle.numbers.specs.Bits.{bit}
 use Rattle.useful.proofs.CloseLaws.{passes}
 use Rattle.useful.proofs.marked.Goals as goal
 
-pub overflow_shr-result : goal.overflow_shr-result
-overflow_shr-result c = search passes
-
 pub returns : goal.returns
 unfolding bit
 returns c = search passes

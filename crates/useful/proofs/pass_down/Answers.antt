@@ -1,21 +1,9 @@
--- After i turns the steps of the i first rules are done. Assumes nothing.
-use Rattle.useful.proofs.CloseLaws.{passes}
+-- A step downward at each rule is a pass (PassLaws). Assumes nothing.
+use Rattle.std.proofs.Common.{rules}
+use Rattle.useful.specs.Marks.{KeptDown}
+use Rattle.useful.proofs.PassLaws.{steps_passed}
 use Rattle.useful.proofs.pass_down.Goals as goal
 
-pub loop-i-init : goal.loop-i-init
-loop-i-init c = search passes
-
-pub step_down-m-requires : goal.step_down-m-requires
-step_down-m-requires c = search passes
-
-pub overflow_add-i : goal.overflow_add-i
-overflow_add-i c = search passes
-
-pub loop-i-smaller : goal.loop-i-smaller
-loop-i-smaller c = search passes
-
-pub loop-i-preserved : goal.loop-i-preserved
-loop-i-preserved c = search passes
-
 pub returns : goal.returns
-returns c = search passes
+returns c =
+    steps_passed _ (KeptDown c.args.rules.now c.args.productive) _ _ _ _ (λ i m m' h e. search rules) c.pass.ensures

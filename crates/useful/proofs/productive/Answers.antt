@@ -1,18 +1,7 @@
--- Each mark stays justified, and a pass that adds none has kept every rule. A pass that adds some makes the number larger. Assumes nothing.
-use Rattle.useful.proofs.CloseLaws.{passes}
+-- Each mark stays justified, and a pass that adds none has kept every rule (CloseLaws). Assumes nothing.
+use Rattle.std.proofs.Common.{rules}
+use Rattle.useful.proofs.CloseLaws.{productive_saturated}
 use Rattle.useful.proofs.productive.Goals as goal
 
-pub loop-m-init : goal.loop-m-init
-loop-m-init c = search passes
-
-pub pass_up-next-requires : goal.pass_up-next-requires
-pass_up-next-requires c = search passes
-
-pub returns-then-next-m : goal.returns-then-next-m
-returns-then-next-m c = search passes
-
-pub loop-m-smaller : goal.loop-m-smaller
-loop-m-smaller c = search passes
-
-pub loop-m-preserved : goal.loop-m-preserved
-loop-m-preserved c = search passes
+pub returns : goal.returns
+returns c = productive_saturated c.args.rules.now _ (λ m next e. search rules) _ c.saturate.ensures

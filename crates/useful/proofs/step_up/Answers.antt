@@ -2,15 +2,6 @@
 use Rattle.useful.proofs.CloseLaws.{passes}
 use Rattle.useful.proofs.step_up.Goals as goal
 
-pub all_marked-requires : goal.all_marked-requires
-all_marked-requires c = search passes
-
-pub field-requires : goal.field-requires
-field-requires c = search passes
-
-pub mark-requires : goal.mark-requires
-mark-requires c = search passes
-
 pub returns-then-all_marked : goal.returns-then-all_marked
 returns-then-all_marked c = search passes
 

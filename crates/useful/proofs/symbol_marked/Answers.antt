@@ -1,23 +1,14 @@
--- Each way through the three tests is a case of the definition. Assumes nothing.
+-- The test is of the nonterminal at the place, if one stands there (SlotLaws). Assumes nothing.
+use Rattle.std.proofs.Common.{Bool, true, ◌∙◌}
+use Rattle.numbers.specs.Bits.{bit}
 use Rattle.useful.specs.Marks.{slot_marked}
-use Rattle.useful.proofs.CloseLaws.{passes}
+use Rattle.useful.proofs.SlotLaws.{slot_some, slot_none}
 use Rattle.useful.proofs.symbol_marked.Goals as goal
 
-pub marked-requires : goal.marked-requires
-marked-requires c = search passes
-
-pub returns-then-byte-lt128 : goal.returns-then-byte-lt128
+pub returns-in-Some : goal.returns-in-Some
 unfolding slot_marked
-returns-then-byte-lt128 c = search passes
+returns-in-Some c = c.marked.ensures ∙ slot_some Bool _ _ (bit c.args.marks) true _ c.in-Some.ensures.value
 
-pub returns-else-byte-lt128 : goal.returns-else-byte-lt128
+pub returns-in-None : goal.returns-in-None
 unfolding slot_marked
-returns-else-byte-lt128 c = search passes
-
-pub returns-else-byte-ge64 : goal.returns-else-byte-ge64
-unfolding slot_marked
-returns-else-byte-ge64 c = search passes
-
-pub returns-else-used : goal.returns-else-used
-unfolding slot_marked
-returns-else-used c = search passes
+returns-in-None c = slot_none Bool _ _ (bit c.args.marks) true c.in-None.ensures.value
