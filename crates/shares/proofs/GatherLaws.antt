@@ -3,13 +3,14 @@
 -- after i turns of the outer one the table has the marks of the rules below i. Assumes nothing.
 use mathlib.Core.Path.{◌≡◌, refl, sym, ◌∙◌}
 use mathlib.Core.Bool.{Bool, true, false, false≢true, or-true, not, ◌&&◌}
-use mathlib.Core.List.{List}
+use mathlib.Core.List.{List, [], ◌∷◌}
 use mathlib.Core.Logic.{◌↔◌, ⊎_elim}
-use Prim.Native.Nat.{ℕ, ◌+◌, ◌*◌, ◌/◌, ◌≤◌, ◌<◌}
+use Prim.Native.Nat.{ℕ, suc, ◌+◌, ◌-◌, ◌*◌, ◌/◌, ◌≤◌, ◌<◌}
 use native.Mathlib.Omega.{arith}
 use lib.Dec.{eqb}
-use lib.ListN.{length, get_or, set, length-set}
-use lib.Seq.{get_or-set_same, get_or-set_other}
+use lib.ListN.{length, get_or, take, drop, set, length-set}
+use lib.Pointwise.{pointwise, bytes_decides}
+use lib.Seq.{drop-cons, get_or-set_same, get_or-set_other}
 use borrow.Author.Rules.{rules}
 use borrow.Author.Tests.{eqb-true, eq-eqb, not-true, not-false}
 use Rattle.numbers.specs.Fields.{field}
@@ -27,29 +28,31 @@ use Rattle.shares.proofs.ShareLaws.{nothing_bit, below_next, same_symbols}
 module _ (rules : List ℕ) where
   -- ---- the tests
 
-  -- by the fields that the test reads, in its order
-  module _ (h i : ℕ) where
-    pub first_differs : (get_or rules (h * 4 + 2) 0 ≡ get_or rules (i * 4 + 2) 0 → ⊥) → (false ≡ true) ↔ SameRight rules h i
-    unfolding field
-    first_differs d = (λ e. absurd (false≢true e), λ (n, b, c). absurd (d b))
+  three_bytes : (a b c : ℕ) → b ≡ suc a → c ≡ suc b → c < length rules
+      → take 3 (drop a rules) ≡ get_or rules a 0 ∷ get_or rules b 0 ∷ get_or rules c 0 ∷ []
+  three_bytes a b c d e l =
+      rw (e, d, drop-cons rules a 0 (omega arith), drop-cons rules (suc a) 0 (omega arith), drop-cons rules (suc (suc a)) 0 (omega arith))
 
-    pub second_differs : (get_or rules (h * 4 + 3) 0 ≡ get_or rules (i * 4 + 3) 0 → ⊥) → (false ≡ true) ↔ SameRight rules h i
-    unfolding field
-    second_differs d = (λ e. absurd (false≢true e), λ (n, b, c). absurd (d c))
-
-    pub length_tells : get_or rules (h * 4 + 2) 0 ≡ get_or rules (i * 4 + 2) 0 → get_or rules (h * 4 + 3) 0 ≡ get_or rules (i * 4 + 3) 0
-        → (eqb (get_or rules (h * 4 + 1) 0) (get_or rules (i * 4 + 1) 0) ≡ true) ↔ SameRight rules h i
-    unfolding field
-    length_tells b c = (λ t. (eqb-true _ _ t, b, c), λ (n, _, _). eq-eqb _ _ n)
-
-  pub left_read : (h : ℕ) → get_or rules (h * 4) 0 ≡ field rules h 0
+  -- the three bytes behind a rule's left side
+  right_bytes : (h : ℕ) → h < length rules / 4
+      → take (h * 4 + 4 - (h * 4 + 1)) (drop (h * 4 + 1) rules) ≡ field rules h 1 ∷ field rules h 2 ∷ field rules h 3 ∷ []
   unfolding field
-  left_read h = let e : h * 4 + 0 ≡ h * 4 = omega arith in rw e
+  right_bytes h l =
+      let three : h * 4 + 4 - (h * 4 + 1) ≡ 3 = omega arith in
+      rw three (three_bytes (h * 4 + 1) (h * 4 + 2) (h * 4 + 3) (omega arith) (omega arith) (omega arith))
 
-  -- a rule's left side, wide, and the test of its mark
-  module _ (in_range : RulesInRange rules) (i : ℕ) (l : i < length rules / 4) (w v : ℕ) (wide : w ≡ v) (left : v ≡ field rules i 0) where
-    pub left_wide : w < 64
-    left_wide = rw (wide, left) (in_range.left_below i l)
+  pub right_told : (h i : ℕ) → h < length rules / 4 → i < length rules / 4 → (t : Bool)
+      → t ≡ pointwise eqb (take (h * 4 + 4 - (h * 4 + 1)) (drop (h * 4 + 1) rules)) (take (i * 4 + 4 - (i * 4 + 1)) (drop (i * 4 + 1) rules))
+      → (t ≡ true) ↔ SameRight rules h i
+  right_told h i l k t e =
+      let told = bytes_decides (field rules h 1 ∷ field rules h 2 ∷ field rules h 3 ∷ []) (field rules i 1 ∷ field rules i 2 ∷ field rules i 3 ∷ []) in
+      rw (e, right_bytes h l, right_bytes i k)
+      (λ s. let d = told.0 s in (cc, cc, cc), λ (n, b, c). told.1 (rw (n, b, c)))
+
+  -- a rule's left side, and the test of its mark
+  module _ (in_range : RulesInRange rules) (i : ℕ) (l : i < length rules / 4) (w : ℕ) (left : w ≡ field rules i 0) where
+    pub left_small : w < 64
+    left_small = rw left (in_range.left_below i l)
 
     -- both its sides are as a page's tree has them
     pub useful_told : (productive useful : ℕ) (t s : Bool) → MarksAll productive (Productive (Gives rules))
@@ -57,7 +60,7 @@ module _ (rules : List ℕ) where
         → ((t && s) ≡ true) ↔ UsefulRule rules i
     useful_told productive useful t s derive marks e test =
         let told : (t ≡ true) ↔ Useful (Gives rules) (field rules i 0) =
-        rw (e, wide, left) (marks (field rules i 0) (in_range.left_below i l)) in (
+        rw (e, left) (marks (field rules i 0) (in_range.left_below i l)) in (
           λ both. let (p, q) = and_out t both in
               (told.0 p, right_productive rules in_range i l productive derive (test.0 q)),
           λ (u, d). rw (told.1 u, test.1 (right_marked rules in_range i l productive derive d)),
@@ -121,11 +124,10 @@ module _ (rules : List ℕ) where
           not_both : UsefulRule rules h → SameRight rules h i → ⊥
           not_both v w = false≢true (sym off ∙ test.1 (v, w))
 
-      pub gathered_more : (v left next : ℕ) → t ≡ true → i ≤ h → v ≡ left → left ≡ field rules h 0 → v < 64
+      pub gathered_more : (v next : ℕ) → t ≡ true → i ≤ h → v ≡ field rules h 0 → v < 64
           → next ≡ with_mark marks v → Gathered (h + 1) next
-      gathered_more v left next on late wide is small w =
+      gathered_more v next on late e small w =
           let (is-useful, same) = test.0 on in
-          let e = wide ∙ is in
           record {
             members = λ x l. (
               λ b. ⊎_elim
@@ -187,11 +189,7 @@ module _ (rules : List ℕ) where
   shares_end i shares all past within = let e : i ≡ length rules / 4 = omega arith in rw (← e) all
 
 pub ruleset sharing = (
-  first_differs,
-  second_differs,
-  length_tells,
-  left_read,
-  left_wide,
+  left_small,
   useful_told,
   gathered_none,
   sharing_useless,

@@ -3,20 +3,11 @@
 #![tactic(auto)]
 
 ghost use Rattle.std.specs.Prelude.{◌≡◌, true, ◌↔◌, ◌/◌, ◌<◌, ◌≤◌, length};
-ghost use Rattle.numbers.specs.Fields.{field};
 ghost use Rattle.template.specs.Layout.{most_rules};
 ghost use Rattle.template.specs.Grammar.{Gives};
 ghost use Rattle.trees.specs.Trees.{Productive, Useful};
 ghost use Rattle.useful.specs.Marks.{RulesInRange, MarksAll};
 ghost use Rattle.shares.specs.Shares.{SameRight, UsefulRule, Sharing, Shares};
-
-// The left side of rule i.
-fn left_side(rules: &[u8], i: usize) -> u8
-    requires { i < length rules.now / 4 }
-    ensures { result ≡ field rules.now i 0 }
-{
-    rules[i * 4]
-}
 
 // Have rules h and i the same right side?
 fn same_right(rules: &[u8], h: usize, i: usize) -> bool
@@ -25,13 +16,7 @@ fn same_right(rules: &[u8], h: usize, i: usize) -> bool
 {
     let a = h * 4;
     let b = i * 4;
-    if rules[a + 2] != rules[b + 2] {
-        return false;
-    }
-    if rules[a + 3] != rules[b + 3] {
-        return false;
-    }
-    rules[a + 1] == rules[b + 1]
+    rules[a + 1..a + 4] == rules[b + 1..b + 4]
 }
 
 // Does rule i stand in some page's tree? Any other is left out: a nonterminal that derives nothing has no images, so a rule with one on its
@@ -43,8 +28,7 @@ fn useful_rule(rules: &[u8], productive: u64, useful: u64, i: usize) -> bool
     requires i_in_bounds { i < length rules.now / 4 }
     ensures { (result ≡ true) ↔ UsefulRule rules.now i }
 {
-    useful::marked(useful, numbers::wide(left_side(rules, i)))
-        & useful::all_marked(rules, i, productive)
+    useful::marked(useful, numbers::field(rules, i, 0)) & useful::all_marked(rules, i, productive)
 }
 
 // Is rule h useful, with the right side of rule i? Most rules have another one, which three bytes tell.
@@ -74,15 +58,13 @@ fn sharers(rules: &[u8], productive: u64, useful: u64, i: usize) -> u64
         return 0;
     }
     let mut marks = 0u64;
-    let mut h = 0;
-    while h < rules.len() / 4 {
+    for h in 0..rules.len() / 4 {
         if is_sharer(rules, productive, useful, h, i) {
             if h < i {
                 return 0;
             }
-            marks = useful::mark(marks, numbers::wide(left_side(rules, h)));
+            marks = useful::mark(marks, numbers::field(rules, h, 0));
         }
-        h += 1;
     }
     marks
 }
@@ -96,10 +78,7 @@ pub fn share(rules: &[u8], productive: u64, useful: u64, shares: &mut [u64; temp
     requires shares_len { length shares.old ≡ most_rules }
     ensures { Shares rules.now shares.new }
 {
-    let mut i = 0;
-    while i < rules.len() / 4 {
-        let marks = sharers(rules, productive, useful, i);
-        shares[i] = marks;
-        i += 1;
+    for i in 0..rules.len() / 4 {
+        shares[i] = sharers(rules, productive, useful, i);
     }
 }
