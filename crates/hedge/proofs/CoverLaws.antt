@@ -10,14 +10,14 @@ use lib.Dec.{ltb}
 use borrow.Author.Tests.{eqb-true, eq-eqb, ltb-true, lt-ltb}
 use Rattle.hedge.specs.Relation.{has, Within}
 use Rattle.hedge.specs.Operations.{below, full, covers}
-use Rattle.numbers.proofs.TestLaws.{and_out}
+use Rattle.std.proofs.lemmas.Bool.{and_parts}
 use Rattle.numbers.proofs.BitLaws.{bit-or}
 use Rattle.hedge.proofs.RelationLaws.{has_relation, relation_lt, relation_ext}
 
 pub below_members : (q x z : ℕ) → (below q x z ≡ true) ↔ ((x < q) × (z < q))
 unfolding below
 below_members q x z = (
-  λ t. let (s, u) = and_out (ltb x q) t in (ltb-true x q s, ltb-true z q u),
+  λ t. let (s, u) = and_parts (ltb x q) _ t in (ltb-true x q s, ltb-true z q u),
   λ m. rw (lt-ltb x q m.0, lt-ltb z q m.1),
 )
 

@@ -9,14 +9,14 @@ use native.Mathlib.Nat.{div-eq_of_lt, mod-eq_of_lt, add-div_left, add-mod_left}
 use native.Mathlib.Numerals.{add-one}
 use native.Mathlib.Omega.{arith}
 use lib.Dec.{eqb, eqb-suc-zero, ltb}
-use lib.Pow.{pow_pos}
 use mir.Syntax.{w64}
 use mir.Val.{Fits}
 use borrow.Author.Rules.{rules}
 use borrow.Author.Tests.{lt-ltb, le-ltb}
+use Rattle.std.proofs.lemmas.Nat.{one_shl}
 use Rattle.numbers.specs.Bits.{bit, one_if, number}
 use Rattle.hedge.specs.Operations.{lowest, relation, below, below_bit, full}
-use Rattle.numbers.proofs.BitLaws.{bit_number, number_lt, number_ext, number_cong, number_append, number_none, shl_one}
+use Rattle.numbers.proofs.BitLaws.{bit_number, number_lt, number_ext, number_cong, number_append, number_none}
 use Rattle.hedge.proofs.RelationLaws.{relation_lt, relation_cong}
 use Rattle.hedge.proofs.UnitLaws.{relation_first_rows}
 
@@ -102,10 +102,7 @@ pub whole_row_is : (q : ℕ) → q ≤ 8 → (1 * 2 ^ q) % 2 ^ 64 - 1 ≡ number
 whole_row_is q h =
     let e : q + (8 - q) ≡ 8 = omega arith in
     let d : number 8 (below_bit q) + 1 ≡ 2 ^ q = rw e at (whole_row q (8 - q)) in
-    rw (shl_one q 64 (omega arith)) (omega (arith, d))
-
-pub whole_row_positive : (q : ℕ) → q ≤ 8 → 1 ≤ (1 * 2 ^ q) % 2 ^ 64
-whole_row_positive q h = rw (shl_one q 64 (omega arith)) (pow_pos q)
+    rw (one_shl q 64 (omega arith)) (omega (arith, d))
 
 module _ (q n r s : ℕ) (h : q ≤ 8) (er : r ≡ 72340172838076673 % 2 ^ (q * 8)) (es : s ≡ number 8 (below_bit n)) where
   rows_there : r ≡ relation 8 (λ x z. eqb z 0 && ltb x q)
@@ -130,7 +127,6 @@ full_is q r s h er es = columns q q r s h er es ∙ relation_cong 8 _ (below q) 
 
 pub ruleset lanes = (
   whole_row_is,
-  whole_row_positive,
   columns_fit,
   full_is,
   rules,

@@ -14,12 +14,13 @@ use lib.Bits.{bit_or}
 use lib.ListN.{length, get_or}
 use lib.Pow.{pow_pos, pow-lt}
 use borrow.Author.Tests.{eqb-true, ltb-true, eq-eqb, lt-ltb}
+use Rattle.std.proofs.lemmas.Bool.{and_parts}
 use Rattle.numbers.specs.Fields.{field}
 use Rattle.hedge.specs.Schema.{schema_from}
 use Rattle.numbers.specs.Bits.{bit}
 use Rattle.hedge.specs.Relation.{has}
 use Rattle.hedge.specs.Operations.{same, linked, ended, one_pair, fires, wrapped, lowest, relation, unit, compose, wrap}
-use Rattle.numbers.proofs.TestLaws.{ext_true, and_out, any_in, any_out}
+use Rattle.numbers.proofs.TestLaws.{ext_true, any_in, any_out}
 use Rattle.numbers.proofs.BitLaws.{bit_number, number_lt, number_ext, number_or, bit_past, bit_pow}
 
 -- ---- a relation and its number
@@ -72,7 +73,7 @@ module _ (K : ℕ) where
             let ez : z ≡ z' = sym (digits_mod x hz) ∙ ap (λ (n : ℕ). n % K) e ∙ digits_mod x' hz' in
             rw (eq-eqb x x' ex, eq-eqb z z' ez),
         λ t.
-            let (s, u) = and_out (eqb x x') t in
+            let (s, u) = and_parts (eqb x x') _ t in
             eq-eqb (x' * K + z') (x * K + z) (rw (eqb-true x x' s, eqb-true z z' u)),
       )
 
@@ -92,7 +93,7 @@ module _ (K : ℕ) where
 pub same_members : (q x z : ℕ) → (same q x z ≡ true) ↔ ((x ≡ z) × (x < q))
 unfolding same
 same_members q x z = (
-  λ t. let (s, u) = and_out (eqb x z) t in (eqb-true x z s, ltb-true x q u),
+  λ t. let (s, u) = and_parts (eqb x z) _ t in (eqb-true x z s, ltb-true x q u),
   λ m. rw (eq-eqb x z m.0, lt-ltb x q m.1),
 )
 
@@ -102,7 +103,7 @@ unfolding linked
 linked_members q f g x z = (
   λ t.
       let (y, h, u) = any_out q _ t in
-      let (s, v) = and_out (f x y) u in
+      let (s, v) = and_parts (f x y) _ u in
       (y, h, s, v),
   λ m. let (y, h, s, v) = m in any_in q _ y h (rw (s, v)),
 )
@@ -123,9 +124,9 @@ module _ (q : ℕ) (rules ends : List ℕ) where
   wrapped_members a f x z = (
     λ u.
         let (i, hi, v) = any_out (length rules / 4) _ u in
-        let (v₁, v₂) = and_out (eqb (field rules i 1) a && ended ends f (field rules i 2)) v in
-        let (va, ve) = and_out (eqb (field rules i 1) a) v₁ in
-        let (vx, vz) = and_out (eqb (field rules i 0) x) v₂ in
+        let (v₁, v₂) = and_parts (eqb (field rules i 1) a && ended ends f (field rules i 2)) _ v in
+        let (va, ve) = and_parts (eqb (field rules i 1) a) _ v₁ in
+        let (vx, vz) = and_parts (eqb (field rules i 0) x) _ v₂ in
         let (t, p, e) = (ended_members f (field rules i 2)).0 ve in
         (field rules i 2, t, (i, hi, eqb-true _ _ vx, eqb-true _ _ va, refl, eqb-true _ _ vz), p, e),
     λ m.

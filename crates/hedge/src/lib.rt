@@ -12,10 +12,10 @@ ghost use Rattle.hedge.specs.Operations.{first_column, through, relation, unit, 
 pub const STATES: usize = 8;
 
 // The first bit of each row: the relation of (x, 0) for each of the most states x.
-const FIRST_COLUMN: u64 = 72340172838076673;
+const FIRST_COLUMN: u64 = 0x0101010101010101;
 
 // The relation of (x, x) for each of the most states x.
-const DIAGONAL: u64 = 9241421688590303745;
+const DIAGONAL: u64 = 0x8040201008040201;
 
 // The rows of the states there are.
 fn first_rows(states: usize, r: u64) -> u64
@@ -68,12 +68,10 @@ pub fn compose(states: usize, left: u64, right: u64) -> u64
     let mut r = 0u64;
     let mut a = left;
     let mut b = right;
-    let mut y = 0usize;
-    while y < states {
-        r = r | crossed(a, b);
-        a = a >> 1;
-        b = b >> 8;
-        y += 1;
+    for _ in 0..states {
+        r |= crossed(a, b);
+        a >>= 1;
+        b >>= 8;
     }
     r
 }
@@ -107,6 +105,7 @@ pub fn full(states: usize) -> u64
 }
 
 // Does the relation s have every pair of r?
+#[tactic(auto, unfolding(crate::specs::Operations::covers))]
 pub fn covers(s: u64, r: u64) -> bool
     ensures { result ≡ covers s r }
 {

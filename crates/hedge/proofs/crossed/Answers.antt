@@ -2,12 +2,6 @@
 use Rattle.hedge.proofs.LoopLaws.{turns}
 use Rattle.hedge.proofs.crossed.Goals as goal
 
-pub column-requires : goal.column-requires
-column-requires c = search turns
-
-pub row-requires : goal.row-requires
-row-requires c = search turns
-
 pub overflow_mul-result : goal.overflow_mul-result
 overflow_mul-result c = search turns
 

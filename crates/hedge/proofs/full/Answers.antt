@@ -2,12 +2,6 @@
 use Rattle.hedge.proofs.LaneLaws.{lanes}
 use Rattle.hedge.proofs.full.Goals as goal
 
-pub first_rows-requires : goal.first_rows-requires
-first_rows-requires c = search lanes
-
-pub whole_row-requires : goal.whole_row-requires
-whole_row-requires c = search lanes
-
 pub overflow_mul-result : goal.overflow_mul-result
 overflow_mul-result c = search lanes
 
