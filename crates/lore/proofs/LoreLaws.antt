@@ -16,17 +16,19 @@ use lib.Seq.{get_or-set_same, get_or-set_other}
 use lib.Pow.{pow-lt}
 use borrow.Author.Rules.{rules}
 use borrow.Author.Tests.{eqb-true, eqb-false, eq-eqb, ne_eqb}
+use Rattle.std.proofs.lemmas.Bool.{and_parts}
+use Rattle.std.proofs.lemmas.Nat.{one_shl}
 use Rattle.numbers.specs.Bits.{any, number}
 use Rattle.numbers.specs.Fields.{field}
 use Rattle.words.specs.Tags.{most_names}
 use Rattle.hedge.specs.Schema.{most_states, RulesBelow, EndsBelow}
-use Rattle.hedge.specs.Operations.{one_pair, relation, unit}
-use Rattle.numbers.proofs.TestLaws.{ext_true, and_out}
-use Rattle.numbers.proofs.BitLaws.{number_lt, number_ext, number_none, number_or, bit_number, bit_pow, shl_one}
+use Rattle.hedge.specs.Operations.{one_pair, relation}
+use Rattle.numbers.proofs.TestLaws.{ext_true}
+use Rattle.numbers.proofs.BitLaws.{number_lt, number_ext, number_none, number_or, bit_number, bit_pow}
 use Rattle.hedge.proofs.RelationLaws.{relation_cong, relation_none, relation_one, relation_or}
-use Rattle.lore.specs.Lore.{table_from, lore_long, marked, reads, outer, leaf_of, place_of, zeros, NamesBelow, Masks, Leaves, Taught, IsLore}
+use Rattle.lore.specs.Lore.{table_from, lore_long, marked, reads, outer, leaf_of, place_of, zeros, NamesBelow, Masks, Leaves, IsLore}
 use Rattle.lore.specs.Lore.{ending_bits, empty_in, meets, met_entry, joined, taught_wrap, taught_accepts}
-use Rattle.lore.proofs.TaughtLaws.{unnamed_entry, lore_few, lore_empty, lore_leaf}
+use Rattle.lore.proofs.TaughtLaws.{unnamed_entry, lore_leaf}
 
 -- ---- the ending states as bits
 
@@ -43,12 +45,12 @@ unfolding marked any
 marked_none K ends = sym (number_none K)
 
 module _ (ends : List ℕ) (j : ℕ) (r : ℕ) (e : r ≡ number 8 (marked ends j)) where
-  pub marked_next : (v : ℕ) → EndsBelow 8 ends → j < length ends → v ≡ get_or ends j 0
-      → bit_or r ((1 * 2 ^ v) % 2 ^ 64) ≡ number 8 (marked ends (j + 1))
+  pub marked_next : EndsBelow 8 ends → j < length ends
+      → bit_or r ((1 * 2 ^ get_or ends j 0) % 2 ^ 64) ≡ number 8 (marked ends (j + 1))
   unfolding marked any
-  marked_next v below hj ev =
-      let h : v < 8 = rw ev (below j hj) in
-      rw (e, shl_one v 64 (omega arith), number_of_one 8 v h, number_or, ev, add-one)
+  marked_next below hj =
+      let h = below j hj in
+      rw (e, one_shl (get_or ends j 0) 64 (omega arith), number_of_one 8 (get_or ends j 0) h, number_or, add-one)
 
   pub marked_end : (n : ℕ) → j ≤ n → n ≤ j → r ≡ number 8 (marked ends n)
   marked_end n h h' = let d : j ≡ n = omega arith in rw (← d) e
@@ -73,13 +75,6 @@ module _ (K : ℕ) (rules : List ℕ) where
   unfolding outer any
   leaves_none marks empty lore z =
       record { leaves = λ a ha. rw z (zero_at (lore_long K) (leaf_of a)) ∙ relation_none K }
-
-  pub masks_end : (lore : List ℕ) (i n : ℕ) → Masks K rules i lore → i ≤ n → n ≤ i → Masks K rules n lore
-  masks_end lore i n m h h' = let d : i ≡ n = omega arith in rw (← d) m
-
-  pub leaves_end : (marks empty : ℕ) (lore : List ℕ) (i n : ℕ) → Leaves K marks empty rules i lore → i ≤ n → n ≤ i
-      → Leaves K marks empty rules n lore
-  leaves_end marks empty lore i n l h h' = let d : i ≡ n = omega arith in rw (← d) l
 
   -- an entry at another place changes none of them
   masks_kept : (lore : List ℕ) (n k v : ℕ) → Masks K rules n lore → k < table_from → Masks K rules n (set lore k v)
@@ -176,7 +171,7 @@ module _ (K : ℕ) (rules : List ℕ) where
               → (eqb (field rules i 1) a && eqb (field rules i 2) u) ≡ false
           apart false e = e
           apart true e =
-              let (p, q) = and_out (eqb (field rules i 1) a) e in
+              let (p, q) = and_parts (eqb (field rules i 1) a) _ e in
               let dp : name ≡ a = en ∙ eqb-true (field rules i 1) a p in
               let dq : y ≡ u = ey ∙ eqb-true (field rules i 2) u q in
               absurd (n (rw (← dp, ← dq) (sym ea)))
@@ -221,81 +216,17 @@ module _ (K : ℕ) (rules : List ℕ) where
                   (leaves_first.leaves a ha) (leaf_here a) (leaf_other a);
             })
 
--- ---- the whole lore
+-- what a leaf is joined with
+pub bare_met : (t : Bool) (pair bare : ℕ) → t ≡ true → bare ≡ pair → bare ≡ cond t pair 0
+bare_met t pair bare et eb = rw et eb
 
-pub taught_whole : (K q marks empty : ℕ) (rules ends lore lore' : List ℕ) → Masks K rules (length rules / 4) lore
-    → Leaves K marks empty rules (length rules / 4) lore
-    → marks ≡ number K (marked ends (length ends))
-    → empty ≡ unit K q
-    → lore' ≡ set (set (set lore 0 q) 1 marks) 2 empty
-    → Taught K q rules ends lore'
-taught_whole K q marks empty rules ends lore lore' m l em ee e =
-    rw e
-    (record {
-      states =
-          get_or-set_other (set (set lore 0 q) 1 marks) 2 0 empty 0 (omega arith)
-          ∙ get_or-set_other (set lore 0 q) 1 0 marks 0 (omega arith)
-          ∙ get_or-set_same lore 0 q 0 (rw m.long (omega arith));
-      endings = marks_in ∙ em;
-      empty = empty-in ∙ ee;
-      masks =
-          masks_kept K rules (set (set lore 0 q) 1 marks) n 2 empty
-          (masks_kept K rules (set lore 0 q) n 1 marks (masks_kept K rules lore n 0 q m (omega arith)) (omega arith)) (omega arith);
-      leaves =
-          rw (marks_in, empty-in)
-          (leaves_kept K rules marks empty (set (set lore 0 q) 1 marks) n 2 empty
-          (leaves_kept K rules marks empty (set lore 0 q) n 1 marks
-          (leaves_kept K rules marks empty lore n 0 q l (λ a ha e. absurd (omega arith))) (λ a ha e. absurd (omega arith)))
-          (λ a ha e. absurd (omega arith)));
-    })
-  where
-    n : ℕ
-    n = length rules / 4
-
-    marks_in : ending_bits (set (set (set lore 0 q) 1 marks) 2 empty) ≡ marks
-    marks_in =
-        get_or-set_other (set (set lore 0 q) 1 marks) 2 1 empty 0 (omega arith)
-        ∙ get_or-set_same (set lore 0 q) 1 marks 0 (rw (length-set lore 0 q, m.long) (omega arith))
-
-    empty-in : empty_in (set (set (set lore 0 q) 1 marks) 2 empty) ≡ empty
-    empty-in =
-        get_or-set_same (set (set lore 0 q) 1 marks) 2 empty 0
-        (rw (length-set (set lore 0 q) 1 marks, length-set lore 0 q, m.long) (omega arith))
-
--- the place of a leaf, and of a name and an inner state, in the words of the code
-pub leaf_lt : (a : ℕ) → a < most_names → 8 + a < lore_long most_states
-leaf_lt a h = omega arith
-
-pub place_lt : (a y : ℕ) → a < most_names → y < most_states → 40 + (a * 8 + y) < lore_long most_states
-place_lt a y ha hy = omega arith
-
--- a state that was read is below the width
-pub read_ending_fits : (j v : ℕ) (ends : List ℕ) → EndsBelow 8 ends → j < length ends → v ≡ get_or ends j 0 → v < 64
-read_ending_fits j v ends h hj e = rw e (omega (arith, h j hj))
-
-module _ (K i v : ℕ) (rules : List ℕ) (h : RulesBelow K rules) (hi : i < length rules / 4) where
-  pub read_left_below : v ≡ field rules i 0 → v < K
-  read_left_below e = rw e (h i hi).0
-
-  pub read_inner_below : v ≡ field rules i 2 → v < K
-  read_inner_below e = rw e (h i hi).1
-
-  pub read_after_below : v ≡ field rules i 3 → v < K
-  read_after_below e = rw e (h i hi).2
-
-pub read_name_below : (i v : ℕ) (rules : List ℕ) → NamesBelow most_names rules → i < length rules / 4 → v ≡ field rules i 1 → v < most_names
-read_name_below i v rules h hi e = rw e (h i hi)
+pub bare_unmet : (t : Bool) (pair bare : ℕ) → t ≡ false → bare ≡ 0 → bare ≡ cond t pair 0
+bare_unmet t pair bare et eb = rw et eb
 
 -- one pair
 pub one_pair_is : (x z : ℕ) → x < 8 → z < 8 → (1 * 2 ^ (x * 8 + z)) % 2 ^ 64 ≡ relation 8 (one_pair true x z)
 unfolding one_pair
-one_pair_is x z hx hz = shl_one (x * 8 + z) 64 (digits_lt hx hz) ∙ relation_one 8 x z hx hz
-
-pub pair_is : (rules : List ℕ) (i x z s : ℕ) → x ≡ field rules i 0
-    → z ≡ field rules i 3
-    → s ≡ relation 8 (one_pair true x z)
-    → s ≡ relation 8 (one_pair true (field rules i 0) (field rules i 3))
-pair_is rules i x z s ex ez es = rw (← ex, ← ez) es
+one_pair_is x z hx hz = one_shl (x * 8 + z) 64 (digits_lt hx hz) ∙ relation_one 8 x z hx hz
 
 -- ---- the join, entry by entry
 
@@ -336,22 +267,16 @@ unfolding joined
 unnamed_joined K lore a r zero long h = refl
 unnamed_joined K lore a r (suc y) long h = rw (unnamed_joined K lore a r y long h, unnamed_part K lore a r y long h)
 
-pub unnamed_wrap : (K a c r : ℕ) (lore : List ℕ) → IsLore K lore → c ≡ a → most_names ≤ c → 0 ≡ taught_wrap K lore a r
+pub unnamed_wrap : (K a r : ℕ) (lore : List ℕ) → IsLore K lore → most_names ≤ a → 0 ≡ taught_wrap K lore a r
 unfolding taught_wrap
-unnamed_wrap K a c r lore l e h = sym (unnamed_joined K lore a r K l.taught.masks.long (rw e at h))
+unnamed_wrap K a r lore l h = sym (unnamed_joined K lore a r K l.taught.masks.long h)
 
--- the leaf, and the joined entries, of the name as it was given
-module _ (a c r : ℕ) (lore : List ℕ) (ec : c ≡ a) where
-  pub leaf_wrap : (e k v : ℕ) → IsLore most_states lore → c < most_names
-      → r ≡ e
-      → e ≡ get_or lore 2 0
-      → k ≡ leaf_of c
-      → v ≡ get_or lore k 0
-      → v ≡ taught_wrap most_states lore a r
-  leaf_wrap e k v l h er ee ek ev = rw (ev, ek, er, ee, ← ec) (lore_leaf lore l c h)
-
-  pub named_wrap : (s : ℕ) → s ≡ taught_wrap most_states lore c r → s ≡ taught_wrap most_states lore a r
-  named_wrap s es = rw (← ec) es
+-- the leaf
+pub leaf_wrap : (a r k : ℕ) (lore : List ℕ) → IsLore most_states lore → a < most_names
+    → r ≡ empty_in lore
+    → k ≡ leaf_of a
+    → get_or lore k 0 ≡ taught_wrap most_states lore a r
+leaf_wrap a r k lore l h er ek = rw (ek, er) (lore_leaf lore l a h)
 
 -- ---- acceptance, in the words of the code
 
@@ -364,21 +289,12 @@ pub ruleset lores = (
   marked_next,
   marked_end,
   masks_none,
-  masks_end,
   masks_taught,
   leaves_none,
-  leaves_end,
   leaves_taught,
-  taught_whole,
-  leaf_lt,
-  place_lt,
-  read_ending_fits,
-  read_left_below,
-  read_inner_below,
-  read_after_below,
-  read_name_below,
+  bare_met,
+  bare_unmet,
   one_pair_is,
-  pair_is,
   joined_none,
   joined_next,
   joined_end,
@@ -386,9 +302,6 @@ pub ruleset lores = (
   entry_unmet,
   unnamed_wrap,
   leaf_wrap,
-  named_wrap,
   accepts_is,
-  lore_few,
-  lore_empty,
   rules,
 )

@@ -11,11 +11,12 @@ use lib.Dec.{eqb, ltb}
 use lib.ListN.{length, get_or}
 use lib.Pow.{pow_pos}
 use borrow.Author.Tests.{eqb-true, eq-eqb, ltb-true, lt-ltb}
+use Rattle.std.proofs.lemmas.Bool.{and_parts}
 use Rattle.numbers.specs.Bits.{bit, any, number}
 use Rattle.hedge.specs.Schema.{EndsBelow}
 use Rattle.hedge.specs.Relation.{has}
 use Rattle.hedge.specs.Operations.{ended}
-use Rattle.numbers.proofs.TestLaws.{ext_true, and_out, any_in, any_out}
+use Rattle.numbers.proofs.TestLaws.{ext_true, any_in, any_out}
 use Rattle.numbers.proofs.BitLaws.{bit_number, number_lt, number_ext, bit_moved, bit-and, bit_past}
 use Rattle.lore.specs.Lore.{marked, meets}
 
@@ -64,7 +65,7 @@ module _ (K : ℕ) (ends : List ℕ) (below : EndsBelow K ends) where
     unfolding ended marked
     there t =
         let (k, hk, u) = any_out K (bit met) (some_bit K met met_lt (ltb-true 0 met t)) in
-        let (v, w) = and_out (has K r y k) (sym (met_bit k hk) ∙ u) in
+        let (v, w) = and_parts (has K r y k) _ (sym (met_bit k hk) ∙ u) in
         let (j, hj, e) = any_out (length ends) (λ j. eqb (get_or ends j 0) k) w in
         any_in (length ends) (λ j. has K r y (get_or ends j 0)) j hj (rw (eqb-true (get_or ends j 0) k e) v)
 

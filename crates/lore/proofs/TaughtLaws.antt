@@ -11,6 +11,7 @@ use native.Mathlib.Omega.{arith}
 use lib.Dec.{eqb}
 use lib.ListN.{length, get_or, get_or-eq_default}
 use borrow.Author.Tests.{eqb-true, eq-eqb}
+use Rattle.std.proofs.lemmas.Bool.{and_parts}
 use Rattle.numbers.specs.Bits.{any, number}
 use Rattle.numbers.specs.Fields.{field}
 use Rattle.words.specs.Tags.{most_names}
@@ -18,7 +19,7 @@ use Rattle.words.specs.Binoid.{Laws}
 use Rattle.hedge.specs.Schema.{most_states, RulesBelow, EndsBelow}
 use Rattle.hedge.specs.Relation.{has, Within}
 use Rattle.hedge.specs.Operations.{ended, one_pair, fires, wrapped, relation, unit, compose, wrap, accepts, relations}
-use Rattle.numbers.proofs.TestLaws.{ext_true, and_out, any_in, any_out}
+use Rattle.numbers.proofs.TestLaws.{ext_true, any_in, any_out}
 use Rattle.hedge.proofs.RelationLaws.{relation_cong, relation_none, relation_or}
 use Rattle.hedge.proofs.NumberLaws.{relations_laws}
 use Rattle.lore.specs.Lore.{lore_long, marked, reads, outer, leaf_of, place_of, NamesBelow, Masks, Taught, IsLore}
@@ -44,10 +45,10 @@ module _ (K : ℕ) (rules ends : List ℕ) (a : ℕ) (f : ℕ → ℕ → Bool) 
   unfolding inside outer reads one_pair wrapped fires
   inside_wrapped t =
       let (y, hy, u) = any_out K (λ y. ended ends f y && outer rules a (λ v. eqb v y) (length rules / 4) x z) t in
-      let (e, o) = and_out (ended ends f y) u in
+      let (e, o) = and_parts (ended ends f y) _ u in
       let (i, hi, p) = any_out (length rules / 4) (λ i. reads rules a (λ v. eqb v y) i x z) o in
-      let (p₁, p₂) = and_out (eqb (field rules i 1) a && eqb (field rules i 2) y) p in
-      let (pa, py) = and_out (eqb (field rules i 1) a) p₁ in
+      let (p₁, p₂) = and_parts (eqb (field rules i 1) a && eqb (field rules i 2) y) _ p in
+      let (pa, py) = and_parts (eqb (field rules i 1) a) _ p₁ in
       any_in (length rules / 4) (λ i. fires rules ends a f i x z) i hi
       (rule_fires i y pa (eqb-true (field rules i 2) y py) e p₂)
 
@@ -55,8 +56,8 @@ module _ (K : ℕ) (rules ends : List ℕ) (a : ℕ) (f : ℕ → ℕ → Bool) 
   unfolding inside outer reads one_pair wrapped fires
   wrapped_inside below t =
       let (i, hi, p) = any_out (length rules / 4) (λ i. fires rules ends a f i x z) t in
-      let (p₁, p₂) = and_out (eqb (field rules i 1) a && ended ends f (field rules i 2)) p in
-      let (pa, e) = and_out (eqb (field rules i 1) a) p₁ in
+      let (p₁, p₂) = and_parts (eqb (field rules i 1) a && ended ends f (field rules i 2)) _ p in
+      let (pa, e) = and_parts (eqb (field rules i 1) a) _ p₁ in
       let o : outer rules a (λ v. eqb v (field rules i 2)) (length rules / 4) x z ≡ true =
       any_in (length rules / 4) (λ k. reads rules a (λ v. eqb v (field rules i 2)) k x z) i hi
       (rw (pa, eq-eqb (field rules i 2) (field rules i 2) refl, p₂))
@@ -77,8 +78,8 @@ unnamed rules names a y ha x z =
     off (outer rules a (λ v. eqb v y) (length rules / 4) x z)
     (λ t.
     let (i, hi, p) = any_out (length rules / 4) (λ i. reads rules a (λ v. eqb v y) i x z) t in
-    let (q, _) = and_out (eqb (field rules i 1) a && eqb (field rules i 2) y) p in
-    let (e, _) = and_out (eqb (field rules i 1) a) q in
+    let (q, _) = and_parts (eqb (field rules i 1) a && eqb (field rules i 2) y) _ p in
+    let (e, _) = and_parts (eqb (field rules i 1) a) _ q in
     let d : field rules i 1 ≡ a = eqb-true (field rules i 1) a e in
     absurd (omega (arith, names i hi)))
 

@@ -3,7 +3,7 @@
 // leaf. What is read is at most eight entries, however many rules there are.
 #![tactic(auto)]
 
-ghost use Rattle.std.specs.Prelude.{◌≡◌, true, cond, ◌+◌, ◌/◌, ◌<◌, ◌≤◌, length, get_or, set};
+ghost use Rattle.std.specs.Prelude.{◌≡◌, true, ◌+◌, ◌/◌, ◌<◌, ◌≤◌, length, get_or, set};
 ghost use Rattle.std.specs.Int.Bits.{bit_or};
 ghost use Rattle.numbers.specs.Bits.{number};
 ghost use Rattle.numbers.specs.Fields.{field};
@@ -26,10 +26,8 @@ fn ending_marks(ends: &[u8]) -> u64
     ensures { result ≡ number most_states (marked ends.now (length ends.now)) }
 {
     let mut r = 0u64;
-    let mut j = 0usize;
-    while j < ends.len() {
-        r = r | (1u64 << numbers::wide(ends[j]));
-        j += 1;
+    for end in ends {
+        r |= 1u64 << *end;
     }
     r
 }
@@ -74,22 +72,16 @@ fn add_pair(lore: &mut [u64; LORE], at: usize, pair: u64)
     requires { at < lore_long most_states }
     ensures { lore.new ≡ set lore.old at (bit_or (get_or lore.old at 0) pair) }
 {
-    lore[at] = lore[at] | pair;
+    lore[at] |= pair;
 }
 
 // Has row y of the relation a marked state?
+#[tactic(auto, unfolding(crate::specs::Lore::meets))]
 fn meets(r: u64, marks: u64, y: usize) -> bool
     requires { y < most_states }
     ensures { result ≡ meets most_states r marks y }
 {
     0 < ((r >> (y * hedge::STATES)) & marks)
-}
-
-// The relation where t, else none.
-fn when(t: bool, r: u64) -> u64
-    ensures { result ≡ cond t r 0 }
-{
-    if t { r } else { 0 }
 }
 
 // Rule i, behind those before it: its pair is one of its name and inner state, and one of the name's leaf where the empty word leads that
@@ -106,7 +98,7 @@ fn teach_rule(rules: &[u8], i: usize, marks: u64, empty: u64, lore: &mut [u64; L
     let name = numbers::field(rules, i, 1);
     let y = numbers::field(rules, i, 2);
     let pair = pair_of(rules, i);
-    let bare = when(meets(empty, marks, y), pair);
+    let bare = if meets(empty, marks, y) { pair } else { 0 };
     add_pair(lore, place(name, y), pair);
     add_pair(lore, leaf(name), bare);
 }
@@ -119,10 +111,8 @@ fn teach_rules(rules: &[u8], marks: u64, empty: u64, lore: &mut [u64; LORE])
     ensures { Masks most_states rules.now (length rules.now / 4) lore.new
         × Leaves most_states marks empty rules.now (length rules.now / 4) lore.new }
 {
-    let mut i = 0usize;
-    while i < rules.len() / 4 {
+    for i in 0..rules.len() / 4 {
         teach_rule(rules, i, marks, empty, lore);
-        i += 1;
     }
 }
 
@@ -183,10 +173,8 @@ fn joined(lore: &[u64; LORE], name: usize, inner: u64) -> u64
     ensures { result ≡ taught_wrap most_states lore.now name inner }
 {
     let mut r = 0u64;
-    let mut y = 0usize;
-    while y < hedge::STATES {
+    for y in 0..hedge::STATES {
         r = join_entry(lore, name, inner, y, r);
-        y += 1;
     }
     r
 }
@@ -196,7 +184,7 @@ pub fn wrap(lore: &[u64; LORE], name: u8, inner: u64) -> u64
     requires { IsLore most_states lore.now }
     ensures { result ≡ taught_wrap most_states lore.now name inner }
 {
-    let a = numbers::wide(name);
+    let a = usize::from(name);
     if words::NAMES <= a {
         return 0;
     }

@@ -5,15 +5,6 @@ use Rattle.lore.proofs.joined.Goals as goal
 pub loop-y-init : goal.loop-y-init
 loop-y-init c = search lores
 
-pub join_entry-r-requires : goal.join_entry-r-requires
-join_entry-r-requires c = search lores
-
-pub overflow_add-y : goal.overflow_add-y
-overflow_add-y c = search lores
-
-pub loop-y-smaller : goal.loop-y-smaller
-loop-y-smaller c = search lores
-
 pub loop-y-preserved : goal.loop-y-preserved
 loop-y-preserved c = search lores
 
