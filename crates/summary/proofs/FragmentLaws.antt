@@ -6,6 +6,7 @@ use Prim.Native.Nat.{ℕ}
 use native.Mathlib.Omega.{arith}
 use lib.ListN.{replicate}
 use borrow.Author.Rules.{rules}
+use Rattle.std.specs.Prelude.{Result, Ok, Err}
 use Rattle.hedge.specs.Schema.{most_states}
 use Rattle.lore.specs.Lore.{IsLore}
 use Rattle.pieces.specs.declared.Piece.{Piece}
@@ -23,13 +24,12 @@ use Rattle.schema.specs.Schemas.{LoreOf}
 use Rattle.schema.proofs.SchemaLaws.{file_lore, lore_carries}
 use Rattle.reader.specs.Reads.{Reads, Found}
 use Rattle.reader.specs.Feeds.{Progressed}
-use Rattle.reader.specs.declared.Progress.{Progress}
-use Rattle.reader.specs.declared.Progress.TheVariants as progress
-use Rattle.summary.specs.declared.FragmentAnswer.{FragmentAnswer}
-use Rattle.summary.specs.declared.FragmentAnswer.TheVariants.{Summarised, BadFile, NotATag, Mismatch, TooDeep}
-use Rattle.summary.specs.declared.FragmentReply.{FragmentReply}
-use Rattle.summary.specs.Packing.{zeros}
-use Rattle.summary.specs.Fragments.{ReadUnder, FragmentAnswers, FragmentSays, FragmentFinds}
+use Rattle.reader.specs.declared.Stop.{Stop}
+use Rattle.reader.specs.declared.Stop.TheVariants.{NotATag, Mismatch, TooDeep}
+use Rattle.summary.specs.declared.FragmentRefusal.{FragmentRefusal}
+use Rattle.summary.specs.declared.FragmentRefusal.TheVariants.{BadFile}
+use Rattle.summary.specs.Replies.{stopped, reply_of}
+use Rattle.summary.specs.Fragments.{ReadUnder, FragmentSays, FragmentFinds}
 use Rattle.summary.proofs.PackingLaws.{holds_packs}
 
 -- ---- the empty word in the arrays
@@ -47,49 +47,46 @@ module _ (known : ℕ) (lore bytes : List ℕ) where
   abbrev Finds : Found Piece → Type 0
   Finds = Reads known (pieces lore) most_tags bytes
 
-  module _ (p : Progress) (names values : List ℕ) (read : Progressed p names values Finds) where
-    pub finds_summarised : (c : Counts) → p ≡ progress.Read c → FragmentFinds Finds Summarised (summary_of c names values)
+  module _ (p : Result Counts Stop) (names values : List ℕ) (read : Progressed p names values Finds) where
+    pub finds_summarised : (c : Counts) → p ≡ Ok c → FragmentFinds Finds (Ok (summary_of c names values))
     finds_summarised c d = let (k, r) = rw d at read in (_, _, r, holds_packs (summary_of c names values) k)
 
-    module _ (r : FragmentReply) (i : ℕ) where
-      pub finds_no_tag : p ≡ progress.NotATag i → (r.answer ≡ NotATag i) × (r.summary ≡ zeros)
-          → FragmentFinds Finds r.answer r.summary
-      finds_no_tag d a = rw a.0 (rw d at read, a.1)
+    finds : (e : Stop) → Progressed (Err e) names values Finds → FragmentFinds Finds (Err e)
+    finds (NotATag i) r = r
+    finds (Mismatch i) r = r
+    finds (TooDeep i) r = r
 
-      pub finds_mismatch : p ≡ progress.Mismatch i → (r.answer ≡ Mismatch i) × (r.summary ≡ zeros)
-          → FragmentFinds Finds r.answer r.summary
-      finds_mismatch d a = rw a.0 (rw d at read, a.1)
+    pub finds_stop : (e : Stop) → p ≡ Err e → FragmentFinds Finds (Err e)
+    finds_stop e d = finds e (rw d at read)
 
-      pub finds_deep : p ≡ progress.TooDeep i → (r.answer ≡ TooDeep i) × (r.summary ≡ zeros)
-          → FragmentFinds Finds r.answer r.summary
-      finds_deep d a = rw a.0 (rw d at read, a.1)
-
-pub ruleset finds_turns = (finds_summarised, finds_no_tag, finds_mismatch, finds_deep, rules)
+pub ruleset finds_turns = (finds_summarised, finds_stop, rules)
 
 -- ---- what a file's fragment is answered
 
-pub says_bad : (f bytes : List ℕ) (r : FragmentReply) (p : ℕ) → (r.answer ≡ BadFile p) × (r.summary ≡ zeros)
-    → reading f ≡ Bad p → FragmentSays f bytes r
-says_bad f bytes r p h e = rw h.0 (e, h.1)
+pub says_bad : (f bytes : List ℕ) (p : ℕ) → reading f ≡ Bad p → FragmentSays f bytes (reply_of (Err (BadFile p)))
+says_bad f bytes p e = (e, refl)
 
-answers_found : (f bytes : List ℕ) → IsSound f → (a : FragmentAnswer) (s : Summary) → FragmentFinds (ReadUnder f bytes) a s
-    → FragmentAnswers f bytes a s
-answers_found f bytes sound Summarised s h = (sound, h)
-answers_found f bytes sound (BadFile p) s h = absurd h
-answers_found f bytes sound (NotATag p) s (r, z) = (sound, r, z)
-answers_found f bytes sound (Mismatch p) s (r, z) = (sound, r, z)
-answers_found f bytes sound (TooDeep p) s (r, z) = (sound, r, z)
+-- what was found, with a refusal as the reply's own
+abbrev pub found_reply : Result Summary Stop → Result Summary FragmentRefusal
+found_reply (Ok s) = Ok s
+found_reply (Err e) = Err (stopped e)
+
+answers_found : (f bytes : List ℕ) → IsSound f → (r : Result Summary Stop) → FragmentFinds (ReadUnder f bytes) r
+    → FragmentSays f bytes (reply_of (found_reply r))
+answers_found f bytes sound (Ok s) h = (sound, h)
+answers_found f bytes sound (Err (NotATag p)) r = (sound, r, refl)
+answers_found f bytes sound (Err (Mismatch p)) r = (sound, r, refl)
+answers_found f bytes sound (Err (TooDeep p)) r = (sound, r, refl)
 
 module _ (f : List ℕ) (shape : Shape) (sound : reading f ≡ Sound shape) (lore : List ℕ) (taught : LoreOf f lore) where
   pub taught_lore : IsLore most_states lore
   taught_lore = file_lore f lore (shape_sound f shape sound) taught
 
-  pub says_found : (bytes : List ℕ) (r : FragmentReply)
-      → FragmentFinds (Reads shape.names (pieces lore) most_tags bytes) r.answer r.summary
-      → FragmentSays f bytes r
+  pub says_found : (bytes : List ℕ) (r : Result Summary Stop) → FragmentFinds (Reads shape.names (pieces lore) most_tags bytes) r
+      → FragmentSays f bytes (reply_of (found_reply r))
   says_found bytes r h =
       let found = lore_carries f lore (shape_sound f shape sound) taught
-      (λ e g w. FragmentFinds (Reads shape.names (lifted e g w) most_tags bytes) r.answer r.summary) h in
-      answers_found f bytes (shape_sound f shape sound) r.answer r.summary (rw (names_are f shape sound) at found)
+      (λ e g w. FragmentFinds (Reads shape.names (lifted e g w) most_tags bytes) r) h in
+      answers_found f bytes (shape_sound f shape sound) r (rw (names_are f shape sound) at found)
 
-pub ruleset fragment_turns = (read_is, taught_lore, says_found, says_bad, rules)
+pub ruleset fragment_turns = (read_is, taught_lore, rules)

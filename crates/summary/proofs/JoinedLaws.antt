@@ -7,6 +7,7 @@ use native.Mathlib.Decide.{dec_le}
 use native.Mathlib.Omega.{arith}
 use lib.ListN.{length}
 use borrow.Author.Rules.{rules}
+use Rattle.std.specs.Prelude.{Result, Ok, Err}
 use Rattle.words.specs.Reader.{reduced, limit, join}
 use Rattle.words.proofs.LimitLaws.{Answers, limit_iff}
 use Rattle.pieces.specs.Pieces.{most_tags, pieces_long, piece_at, lifted, Counted}
@@ -17,18 +18,16 @@ use Rattle.template.proofs.ShapeLaws.{shape_sound}
 use Rattle.form.specs.Held.{tag_count, summary_of, form_of, last_of, Holds}
 use Rattle.form.specs.Steps.{Stepped, outcome, after_form}
 use Rattle.form.specs.declared.Counts.{Counts}
-use Rattle.form.specs.declared.Step.{Step}
-use Rattle.form.specs.declared.Step.TheVariants as step
+use Rattle.form.specs.declared.Clash.{Clash}
+use Rattle.form.specs.declared.Clash.TheVariants as clash
 use Rattle.form.specs.declared.Summary.{Summary}
 use Rattle.form.proofs.TurnLaws.{kept_holds}
 use Rattle.form.proofs.FormLaws.{form_limit}
 use Rattle.schema.specs.Schemas.{binoid_of, LoreOf}
 use Rattle.schema.proofs.SchemaLaws.{lore_carries}
-use Rattle.summary.specs.declared.JoinAnswer.{JoinAnswer}
-use Rattle.summary.specs.declared.JoinAnswer.TheVariants.{Joined, BadFile, NoSummary, Mismatch, TooDeep}
-use Rattle.summary.specs.declared.JoinReply.{JoinReply}
-use Rattle.summary.specs.Packing.{zeros}
-use Rattle.summary.specs.Joins.{SummaryUnder, BothSummaries, outcome_of, JoinAnswers, JoinSays}
+use Rattle.summary.specs.declared.JoinRefusal.TheVariants.{BadFile, NoSummary}
+use Rattle.summary.specs.Replies.{clashed, reply_of}
+use Rattle.summary.specs.Joins.{SummaryUnder, BothSummaries, outcome_of, JoinSays}
 use Rattle.summary.proofs.PackingLaws.{holds_packs}
 use Rattle.summary.proofs.FragmentLaws.{taught_lore}
 
@@ -43,26 +42,22 @@ holds_summary f s l m h =
     at k (yes l) = (h.within k l).1
     at k (no l) = rw (h.unused.values_zero k (omega arith)) (omega arith)
 
--- a reply that says why it refused
+-- a refusal before anything is joined
 
-join-answer : (f : List ℕ) (left right : Summary) (r : JoinReply) (a : JoinAnswer) → (r.answer ≡ a) × (r.summary ≡ zeros)
-    → JoinAnswers f left right a zeros → JoinSays f left right r
-join-answer f left right r a h p = rw (h.0, h.1) p
+module _ (f : List ℕ) (left right : Summary) where
+  pub join_bad : (p : ℕ) → reading f ≡ Bad p → JoinSays f left right (reply_of (Err (BadFile p)))
+  join_bad p e = (e, refl)
 
-module _ (f : List ℕ) (left right : Summary) (r : JoinReply) where
-  pub join_bad : (p : ℕ) → (r.answer ≡ BadFile p) × (r.summary ≡ zeros) → reading f ≡ Bad p → JoinSays f left right r
-  join_bad p h e = join-answer f left right r (BadFile p) h (e, refl)
+  pub join_no_left : IsSound f → (SummaryUnder f left → ⊥) → JoinSays f left right (reply_of (Err NoSummary))
+  join_no_left s n = (s, λ p q. n p, refl)
 
-  pub join_no_left : (r.answer ≡ NoSummary) × (r.summary ≡ zeros) → IsSound f → (SummaryUnder f left → ⊥) → JoinSays f left right r
-  join_no_left h s n = join-answer f left right r NoSummary h (s, λ p q. n p, refl)
-
-  pub join_no_right : (r.answer ≡ NoSummary) × (r.summary ≡ zeros) → IsSound f → (SummaryUnder f right → ⊥) → JoinSays f left right r
-  join_no_right h s n = join-answer f left right r NoSummary h (s, λ p q. n q, refl)
+  pub join_no_right : IsSound f → (SummaryUnder f right → ⊥) → JoinSays f left right (reply_of (Err NoSummary))
+  join_no_right s n = (s, λ p q. n q, refl)
 
 -- what joining leaves
 
 module _ (f : List ℕ) (shape : Shape) (sound : reading f ≡ Sound shape) (lore : List ℕ) (taught : LoreOf f lore)
-    (left right : Summary) (hl : SummaryUnder f left) (hr : SummaryUnder f right) (t : Step) (names values : List ℕ)
+    (left right : Summary) (hl : SummaryUnder f left) (hr : SummaryUnder f right) (t : Result Counts Clash) (names values : List ℕ)
     (stepped : Stepped t names values (after_form lore left right)) where
   joined_limit : Answers most_tags (outcome_of f left right) (outcome t names values)
   joined_limit =
@@ -76,20 +71,20 @@ module _ (f : List ℕ) (shape : Shape) (sound : reading f ≡ Sound shape) (lor
   both_summaries : BothSummaries f left right
   both_summaries = (shape_sound f shape sound, hl, hr)
 
-  pub joined_kept : (c : Counts) → t ≡ step.Kept c → JoinAnswers f left right Joined (summary_of c names values)
+  pub joined_kept : (c : Counts) → t ≡ Ok c → JoinSays f left right (reply_of (Ok (summary_of c names values)))
   unfolding outcome
   joined_kept c d =
       let (o, few) = rw d at joined_limit in
       let k = kept_holds t names values _ c stepped d in
       (both_summaries, (_, _, o, few, holds_packs (summary_of c names values) k))
 
-  module _ (r : JoinReply) where
-    pub joined_differ : (a b : ℕ) → t ≡ step.Mismatch a b → (r.answer ≡ Mismatch) × (r.summary ≡ zeros) → JoinSays f left right r
-    unfolding outcome
-    joined_differ a b d h = join-answer f left right r Mismatch h (both_summaries, (a, b, rw d at joined_limit), refl)
+  joined_clash : (e : Clash) → Answers most_tags (outcome_of f left right) (outcome (Err e) names values)
+      → JoinSays f left right (reply_of (Err (clashed e)))
+  unfolding outcome
+  joined_clash (clash.Mismatch a b) o = (both_summaries, (a, b, o), refl)
+  joined_clash clash.TooDeep o = (both_summaries, o, refl)
 
-    pub joined_deep : t ≡ step.TooDeep → (r.answer ≡ TooDeep) × (r.summary ≡ zeros) → JoinSays f left right r
-    unfolding outcome
-    joined_deep d h = join-answer f left right r TooDeep h (both_summaries, rw d at joined_limit, refl)
+  pub joined_refused : (e : Clash) → t ≡ Err e → JoinSays f left right (reply_of (Err (clashed e)))
+  joined_refused e d = joined_clash e (rw d at joined_limit)
 
-pub ruleset join_turns = (taught_lore, joined_kept, rules)
+pub ruleset join_turns = (taught_lore, joined_kept, joined_refused, rules)

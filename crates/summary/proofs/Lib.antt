@@ -9,4 +9,3 @@ pub mod NamedLaws
 pub mod PlaceLaws
 pub mod MeaningLaws
 pub mod NetLaws
-pub mod DepthLaws

@@ -7,6 +7,7 @@ use mathlib.Core.List.{List, ◌++◌}
 use mathlib.Core.Logic.{◌↔◌}
 use Prim.Native.Nat.{ℕ, ◌≤◌, ◌<◌}
 use native.Mathlib.Omega.{arith}
+use Rattle.std.specs.Prelude.{Result, Ok, Err}
 use Rattle.words.specs.Tags.{Tag}
 use Rattle.words.specs.Balance.{Mismatched}
 use Rattle.words.specs.Reduced.{Stack, tags, Reduced}
@@ -23,11 +24,9 @@ use Rattle.reader.proofs.ReadsLaws.{reads_finding}
 use Rattle.reader.proofs.SpelledLaws.{spelled_append}
 use Rattle.form.specs.Held.{form_of, last_of}
 use Rattle.form.specs.declared.Summary.{Summary}
-use Rattle.summary.specs.declared.FragmentAnswer.TheVariants.{Summarised}
-use Rattle.summary.specs.declared.FragmentReply.{FragmentReply}
-use Rattle.summary.specs.declared.JoinAnswer.{JoinAnswer}
-use Rattle.summary.specs.declared.JoinAnswer.TheVariants.{Joined, BadFile, NoSummary, Mismatch, TooDeep}
-use Rattle.summary.specs.declared.JoinReply.{JoinReply}
+use Rattle.summary.specs.declared.JoinRefusal.{JoinRefusal}
+use Rattle.summary.specs.declared.JoinRefusal.TheVariants.{BadFile, NoSummary, Mismatch, TooDeep}
+use Rattle.summary.specs.Replies.{FragmentReply, JoinReply}
 use Rattle.summary.specs.Packing.{Packs}
 use Rattle.schema.specs.Schemas.{binoid_of}
 use Rattle.summary.specs.Words.{SummaryOf}
@@ -60,8 +59,8 @@ module _ (f : List ℕ) (sound : IsSound f) where
 
 -- ---- fragments
 
-module _ (f bytes : List ℕ) (r : FragmentReply) (says : FragmentSays f bytes r) (made : r.answer ≡ Summarised) where
-  summarised : FragmentAnswers f bytes Summarised r.summary
+module _ (f bytes : List ℕ) (r : FragmentReply) (says : FragmentSays f bytes r) (made : r.answer ≡ Ok tt) where
+  summarised : FragmentAnswers f bytes (Ok tt) r.summary
   summarised = subst (λ a. FragmentAnswers f bytes a r.summary) made says
 
   pub fragment_sound : IsSound f
@@ -81,7 +80,7 @@ module _ (f bytes : List ℕ) (r : FragmentReply) (says : FragmentSays f bytes r
 
 -- a joined summary is a summary, of whichever two
 module _ (f : List ℕ) (left right : Summary) where
-  joined_under_file : (s : Summary) → JoinAnswers f left right Joined s → SummaryUnder f s
+  joined_under_file : (s : Summary) → JoinAnswers f left right (Ok tt) s → SummaryUnder f s
   joined_under_file s ((sound, l, r), (t, c, o, k, p)) =
       let (gl, hl) = summary_good (name_count f) (states f) left l in
       let (gr, hr) = summary_good (name_count f) (states f) right r in
@@ -91,7 +90,7 @@ module _ (f : List ℕ) (left right : Summary) where
       (summary_below (name_count f) (states f) left l) (summary_below (name_count f) (states f) right r) o)
       g h
 
-  pub joined_under : (r : JoinReply) → JoinSays f left right r → r.answer ≡ Joined → SummaryUnder f r.summary
+  pub joined_under : (r : JoinReply) → JoinSays f left right r → r.answer ≡ Ok tt → SummaryUnder f r.summary
   joined_under r says e = joined_under_file r.summary (subst (λ a. JoinAnswers f left right a r.summary) e says)
 
 -- two words, whose summaries are joined
@@ -103,21 +102,21 @@ module _ (f : List ℕ) (sound : IsSound f) {u v : List Tag} {left right : Summa
   abbrev pub Deep : Type 0
   Deep = (t : Stack Piece) × (c : Piece) × Reduced (binoid_of f) (u ++ v) t c × (most_tags < tags t)
 
-  abbrev Means : JoinAnswer → Summary → Type 0
-  Means Joined s = Fits × SummaryOf f (u ++ v) s
-  Means (BadFile i) s = ⊥
-  Means NoSummary s = ⊥
-  Means Mismatch s = Mismatched (u ++ v)
-  Means TooDeep s = Deep
+  abbrev Means : Result Unit JoinRefusal → Summary → Type 0
+  Means (Ok _) s = Fits × SummaryOf f (u ++ v) s
+  Means (Err (BadFile i)) s = ⊥
+  Means (Err NoSummary) s = ⊥
+  Means (Err Mismatch) s = Mismatched (u ++ v)
+  Means (Err TooDeep) s = Deep
 
-  join_means : (a : JoinAnswer) (s : Summary) → JoinAnswers f left right a s → Means a s
-  join_means Joined s (h, (t, c, o, k, z)) =
+  join_means : (a : Result Unit JoinRefusal) (s : Summary) → JoinAnswers f left right a s → Means a s
+  join_means (Ok _) s (h, (t, c, o, k, z)) =
       let r = (join_reduced (binoid_of f) (laws_of f sound) p.reduces q.reduces t c).0 o in
       ((t, c, r, k), summary_of f _ (spelled_append (name_count f) p.spelled.1 q.spelled.1) r z)
-  join_means (BadFile i) s (e, z) = sound_not_bad f i sound e
-  join_means NoSummary s (h, n, z) = n (summary_of_under f sound p) (summary_of_under f sound q)
-  join_means Mismatch s (h, o, z) = (join_differ (binoid_of f) (laws_of f sound) p.reduces q.reduces).0 o
-  join_means TooDeep s (h, (t, c, o, k), z) =
+  join_means (Err (BadFile i)) s (e, z) = sound_not_bad f i sound e
+  join_means (Err NoSummary) s (h, n, z) = n (summary_of_under f sound p) (summary_of_under f sound q)
+  join_means (Err Mismatch) s (h, o, z) = (join_differ (binoid_of f) (laws_of f sound) p.reduces q.reduces).0 o
+  join_means (Err TooDeep) s (h, (t, c, o, k), z) =
       (t, c, (join_reduced (binoid_of f) (laws_of f sound) p.reduces q.reduces t c).0 o, k)
 
   -- of the three one at most is so
@@ -131,48 +130,48 @@ module _ (f : List ℕ) (sound : IsSound f) {u v : List Tag} {left right : Summa
   clash_or_reduced : {t : Stack Piece} {c : Piece} → Mismatched (u ++ v) → Reduced (binoid_of f) (u ++ v) t c → ⊥
   clash_or_reduced m r = never_both (binoid_of f) (laws_of f sound) r m
 
-  means_joined : (a : JoinAnswer) (s : Summary) → Means a s → Fits → a ≡ Joined
-  means_joined Joined s m h = refl
-  means_joined (BadFile i) s m h = absurd m
-  means_joined NoSummary s m h = absurd m
-  means_joined Mismatch s m (t, c, r, k) = absurd (clash_or_reduced m r)
-  means_joined TooDeep s m h = absurd (fits_or_deep h m)
+  means_joined : (a : Result Unit JoinRefusal) (s : Summary) → Means a s → Fits → a ≡ Ok tt
+  means_joined (Ok _) s m h = refl
+  means_joined (Err (BadFile i)) s m h = absurd m
+  means_joined (Err NoSummary) s m h = absurd m
+  means_joined (Err Mismatch) s m (t, c, r, k) = absurd (clash_or_reduced m r)
+  means_joined (Err TooDeep) s m h = absurd (fits_or_deep h m)
 
-  means_mismatch : (a : JoinAnswer) (s : Summary) → Means a s → Mismatched (u ++ v) → a ≡ Mismatch
-  means_mismatch Joined s ((t, c, r, k), z) h = absurd (clash_or_reduced h r)
-  means_mismatch (BadFile i) s m h = absurd m
-  means_mismatch NoSummary s m h = absurd m
-  means_mismatch Mismatch s m h = refl
-  means_mismatch TooDeep s (t, c, r, k) h = absurd (clash_or_reduced h r)
+  means_mismatch : (a : Result Unit JoinRefusal) (s : Summary) → Means a s → Mismatched (u ++ v) → a ≡ Err Mismatch
+  means_mismatch (Ok _) s ((t, c, r, k), z) h = absurd (clash_or_reduced h r)
+  means_mismatch (Err (BadFile i)) s m h = absurd m
+  means_mismatch (Err NoSummary) s m h = absurd m
+  means_mismatch (Err Mismatch) s m h = refl
+  means_mismatch (Err TooDeep) s (t, c, r, k) h = absurd (clash_or_reduced h r)
 
-  means_deep : (a : JoinAnswer) (s : Summary) → Means a s → Deep → a ≡ TooDeep
-  means_deep Joined s m h = absurd (fits_or_deep m.0 h)
-  means_deep (BadFile i) s m h = absurd m
-  means_deep NoSummary s m h = absurd m
-  means_deep Mismatch s m (t, c, r, k) = absurd (clash_or_reduced m r)
-  means_deep TooDeep s m h = refl
+  means_deep : (a : Result Unit JoinRefusal) (s : Summary) → Means a s → Deep → a ≡ Err TooDeep
+  means_deep (Ok _) s m h = absurd (fits_or_deep m.0 h)
+  means_deep (Err (BadFile i)) s m h = absurd m
+  means_deep (Err NoSummary) s m h = absurd m
+  means_deep (Err Mismatch) s m (t, c, r, k) = absurd (clash_or_reduced m r)
+  means_deep (Err TooDeep) s m h = refl
 
   -- the replies
   module _ (r : JoinReply) (says : JoinSays f left right r) where
     meaning : Means r.answer r.summary
     meaning = join_means r.answer r.summary says
 
-    pub joined_iff : (r.answer ≡ Joined) ↔ Fits
+    pub joined_iff : (r.answer ≡ Ok tt) ↔ Fits
     joined_iff = (
       λ e. (subst (λ a. Means a r.summary) e meaning).0,
       means_joined r.answer r.summary meaning,
     )
 
-    pub joined_summary_of : r.answer ≡ Joined → SummaryOf f (u ++ v) r.summary
+    pub joined_summary_of : r.answer ≡ Ok tt → SummaryOf f (u ++ v) r.summary
     joined_summary_of e = (subst (λ a. Means a r.summary) e meaning).1
 
-    pub mismatch_iff : (r.answer ≡ Mismatch) ↔ Mismatched (u ++ v)
+    pub mismatch_iff : (r.answer ≡ Err Mismatch) ↔ Mismatched (u ++ v)
     mismatch_iff = (
       λ e. subst (λ a. Means a r.summary) e meaning,
       means_mismatch r.answer r.summary meaning,
     )
 
-    pub deep_iff : (r.answer ≡ TooDeep) ↔ Deep
+    pub deep_iff : (r.answer ≡ Err TooDeep) ↔ Deep
     deep_iff = (
       λ e. subst (λ a. Means a r.summary) e meaning,
       means_deep r.answer r.summary meaning,

@@ -7,15 +7,14 @@ use Prim.Native.Nat.{ℕ, suc, ◌+◌, ◌-◌, ◌≤◌, ◌<◌}
 use native.Mathlib.Decide.{dec_lt}
 use native.Mathlib.Omega.{arith}
 use lib.IntN.{ℤ, pos, negsuc, neg_ℤ, ◌+ℤ◌, ◌-ℤ◌}
+use Rattle.std.specs.Prelude.{Ok}
 use Rattle.words.specs.Reduced.{net}
 use Rattle.words.proofs.DepthLaws.{net_join}
 use Rattle.form.proofs.HeldLaws.{net_held}
 use Rattle.pieces.specs.Pieces.{most_tags}
 use Rattle.form.specs.Held.{form_of, last_of}
 use Rattle.form.specs.declared.Summary.{Summary}
-use Rattle.summary.specs.declared.JoinAnswer.TheVariants.{Joined}
-use Rattle.summary.specs.declared.JoinReply.{JoinReply}
-use Rattle.summary.specs.declared.DepthReply.TheVariants.{Net}
+use Rattle.summary.specs.Replies.{JoinReply}
 use Rattle.schema.specs.Schemas.{binoid_of}
 use Rattle.summary.specs.Joins.{JoinAnswers, JoinSays, DepthSays}
 use Rattle.summary.proofs.SignedLaws.{difference_up, difference_down}
@@ -40,7 +39,7 @@ module _ (a b n : ℕ) where
 
 -- ---- the net depth of a summary
 
-module _ (f : List ℕ) (s : Summary) (z : ℤ) (says : DepthSays f s (Net z)) where
+module _ (f : List ℕ) (s : Summary) (z : ℤ) (says : DepthSays f s (Ok z)) where
   pub depth_few : s.counts.ends + s.counts.starts ≤ most_tags
   depth_few = says.1.few
 
@@ -73,10 +72,10 @@ module _ (f : List ℕ) (s : Summary) (z : ℤ) (says : DepthSays f s (Net z)) w
 -- ---- the net depth of a join
 
 module _ (f : List ℕ) (left right : Summary) where
-  net_of_joined : (s : Summary) → JoinAnswers f left right Joined s → net (form_of s) ≡ net (form_of left) +ℤ net (form_of right)
+  net_of_joined : (s : Summary) → JoinAnswers f left right (Ok tt) s → net (form_of s) ≡ net (form_of left) +ℤ net (form_of right)
   net_of_joined s (h, (t, c, o, k, p)) =
       ap net p.form_is ∙ net_join (binoid_of f) (form_of left) (form_of right) t (last_of left) (last_of right) c o
 
-  pub net_joined : (r : JoinReply) → JoinSays f left right r → r.answer ≡ Joined
+  pub net_joined : (r : JoinReply) → JoinSays f left right r → r.answer ≡ Ok tt
       → net (form_of r.summary) ≡ net (form_of left) +ℤ net (form_of right)
   net_joined r says e = net_of_joined r.summary (subst (λ a. JoinAnswers f left right a r.summary) e says)

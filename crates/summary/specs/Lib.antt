@@ -1,5 +1,6 @@
 pub mod Packing
 pub mod Words
+pub mod Replies
 pub mod Fragments
 pub mod Joins
 pub mod Answers

@@ -10,49 +10,68 @@ ghost use Rattle.template.specs.Order.{reading};
 ghost use Rattle.template.specs.declared.Reading.TheVariants.{Sound};
 ghost use Rattle.reader.specs.Reads.{Reads};
 ghost use Rattle.summary.specs.Packing.{zeros, IsSummary, every, name_fits, piece_fits};
+ghost use Rattle.summary.specs.Replies.{stopped, clashed, reply_of};
 ghost use Rattle.summary.specs.Fragments.{FragmentSays, FragmentFinds};
 ghost use Rattle.summary.specs.Joins.{SummaryUnder, JoinSays, DepthSays};
 ghost use Rattle.summary.specs.Answers.{fragment_answer, fragment_number, join_answer, join_number, depth_answer, depth_number, net_depth};
 
-// What reading a fragment answers, with the place of the fault.
-#[derive(Clone, Copy)]
-pub enum FragmentAnswer {
-    Summarised,
+// Why a fragment has no summary, with the place of the fault.
+#[derive(Clone, Copy, Debug, PartialEq, Eq)]
+pub enum FragmentRefusal {
     BadFile(usize),
     NotATag(usize),
     Mismatch(usize),
     TooDeep(usize),
 }
 
-// The answer, and beside it the summary, all zeros where it was refused.
-#[derive(Clone, Copy)]
-pub struct FragmentReply {
-    pub answer: FragmentAnswer,
-    pub summary: form::Summary,
-}
-
-// What joining answers.
-#[derive(Clone, Copy)]
-pub enum JoinAnswer {
-    Joined,
+// Why two summaries are not joined.
+#[derive(Clone, Copy, Debug, PartialEq, Eq)]
+pub enum JoinRefusal {
     BadFile(usize),
     NoSummary,
     Mismatch,
     TooDeep,
 }
 
+// Why there is no net depth.
+#[derive(Clone, Copy, Debug, PartialEq, Eq)]
+pub enum DepthRefusal {
+    BadFile(usize),
+    NoSummary,
+}
+
+// The answer, and beside it the summary, all zeros where it was refused: the form that a reply has in Rules, section 9.
 #[derive(Clone, Copy)]
-pub struct JoinReply {
-    pub answer: JoinAnswer,
+pub struct Reply<E> {
+    pub answer: Result<(), E>,
     pub summary: form::Summary,
 }
 
-// The net depth, or why there is none.
-#[derive(Clone, Copy)]
-pub enum DepthReply {
-    Net(i32),
-    BadFile(usize),
-    NoSummary,
+pub type FragmentReply = Reply<FragmentRefusal>;
+
+pub type JoinReply = Reply<JoinRefusal>;
+
+impl From<reader::Stop> for FragmentRefusal {
+    ghost from_gives = { λ stop r. r ≡ stopped stop };
+
+    fn from(stop: reader::Stop) -> FragmentRefusal {
+        match stop {
+            reader::Stop::NotATag(i) => FragmentRefusal::NotATag(i),
+            reader::Stop::Mismatch(i) => FragmentRefusal::Mismatch(i),
+            reader::Stop::TooDeep(i) => FragmentRefusal::TooDeep(i),
+        }
+    }
+}
+
+impl From<form::Clash> for JoinRefusal {
+    ghost from_gives = { λ clash r. r ≡ clashed clash };
+
+    fn from(clash: form::Clash) -> JoinRefusal {
+        match clash {
+            form::Clash::Mismatch(_, _) => JoinRefusal::Mismatch,
+            form::Clash::TooDeep => JoinRefusal::TooDeep,
+        }
+    }
 }
 
 // The summary of a refusal.
@@ -66,52 +85,61 @@ fn zeros() -> form::Summary
     }
 }
 
-// A refusal's reply.
-fn refused(answer: FragmentAnswer) -> FragmentReply
-    ensures { (result.answer ≡ answer) × (result.summary ≡ zeros) }
+// What was found, as a reply.
+fn reply_of<E>(found: Result<form::Summary, E>) -> Reply<E>
+    ensures { result ≡ reply_of found }
 {
-    let s = zeros();
-    FragmentReply {
-        answer: answer,
-        summary: s,
+    match found {
+        Ok(summary) => Reply {
+            answer: Ok(()),
+            summary: summary,
+        },
+        Err(refusal) => Reply {
+            answer: Err(refusal),
+            summary: zeros(),
+        },
     }
 }
 
 // Reads the bytes under a schema that was taught, where there are `known` names.
-pub fn summarise(lore: &[u64; lore::LORE], known: u8, bytes: &[u8]) -> FragmentReply
+pub fn summarise(
+    lore: &[u64; lore::LORE],
+    known: u8,
+    bytes: &[u8],
+) -> Result<form::Summary, reader::Stop>
     requires { IsLore most_states lore.now }
-    ensures { FragmentFinds (Reads known (pieces lore.now) most_tags bytes.now) result.answer result.summary }
+    ensures { FragmentFinds (Reads known (pieces lore.now) most_tags bytes.now) result }
 {
     let mut names = [0u8; pieces::TAGS];
     let mut values = [0u64; pieces::PIECES];
     pieces::put_piece(&mut values, 0, pieces::empty(lore));
-    let p = reader::read_bytes(lore, &mut names, &mut values, known, bytes);
-    match p {
-        reader::Progress::Read(c) => FragmentReply {
-            answer: FragmentAnswer::Summarised,
-            summary: form::Summary {
-                counts: c,
-                names: names,
-                values: values,
-            },
-        },
-        reader::Progress::NotATag(i) => refused(FragmentAnswer::NotATag(i)),
-        reader::Progress::Mismatch(i) => refused(FragmentAnswer::Mismatch(i)),
-        reader::Progress::TooDeep(i) => refused(FragmentAnswer::TooDeep(i)),
-    }
+    let counts = reader::read_bytes(lore, &mut names, &mut values, known, bytes)?;
+    Ok(form::Summary {
+        counts: counts,
+        names: names,
+        values: values,
+    })
+}
+
+// The summary of a fragment under the file, or the first reason why there is none.
+fn fragment_under(file: &[u8], bytes: &[u8]) -> Result<form::Summary, FragmentRefusal>
+    ensures { FragmentSays file.now bytes.now (reply_of result) }
+{
+    let r = template::read(file);
+    let template::Reading::Sound(shape) = r else {
+        return Err(FragmentRefusal::BadFile(template::place(r)));
+    };
+    let mut lore = [0u64; lore::LORE];
+    schema::teach(file, shape, &mut lore);
+    let s = summarise(&lore, shape.names, bytes)?;
+    Ok(s)
 }
 
 // The summary of a fragment: 7; 10, 11 or 12 where the reading ends; else the reduced form.
 pub fn fragment(file: &[u8], bytes: &[u8]) -> FragmentReply
     ensures { FragmentSays file.now bytes.now result }
 {
-    let r = template::read(file);
-    let template::Reading::Sound(shape) = r else {
-        return refused(FragmentAnswer::BadFile(template::place(r)));
-    };
-    let mut lore = [0u64; lore::LORE];
-    schema::teach(file, shape, &mut lore);
-    summarise(&lore, shape.names, bytes)
+    reply_of(fragment_under(file, bytes))
 }
 
 // A name in use is below the number of names, another is 0.
@@ -182,27 +210,17 @@ fn is_summary(s: form::Summary, known: u8, states: usize) -> bool
     pieces_fit(&values, n, states)
 }
 
-fn join_refused(answer: JoinAnswer) -> JoinReply
-    ensures { (result.answer ≡ answer) × (result.summary ≡ zeros) }
-{
-    let s = zeros();
-    JoinReply {
-        answer: answer,
-        summary: s,
-    }
-}
-
 // Joins two summaries under a sound file of these numbers.
 fn join_summaries(
     file: &[u8],
     shape: template::Shape,
     left: form::Summary,
     right: form::Summary,
-) -> JoinReply
+) -> Result<form::Summary, JoinRefusal>
     requires file_value { reading file.now ≡ Sound shape }
     requires summary_under { SummaryUnder file.now left }
     requires summary_under_2 { SummaryUnder file.now right }
-    ensures { JoinSays file.now left right result }
+    ensures { JoinSays file.now left right (reply_of result) }
 {
     let mut lore = [0u64; lore::LORE];
     schema::teach(file, shape, &mut lore);
@@ -212,36 +230,40 @@ fn join_summaries(
     let parts = right.values;
     let c = left.counts;
     let more = right.counts;
-    let t = form::then_form(&lore, &mut names, &mut values, c, &tags, &parts, more);
-    match t {
-        form::Step::Kept(d) => JoinReply {
-            answer: JoinAnswer::Joined,
-            summary: form::Summary {
-                counts: d,
-                names: names,
-                values: values,
-            },
-        },
-        form::Step::Mismatch(_, _) => join_refused(JoinAnswer::Mismatch),
-        form::Step::TooDeep => join_refused(JoinAnswer::TooDeep),
+    let counts = form::then_form(&lore, &mut names, &mut values, c, &tags, &parts, more)?;
+    Ok(form::Summary {
+        counts: counts,
+        names: names,
+        values: values,
+    })
+}
+
+// The joined summary under the file, or the first reason why there is none.
+fn join_under(
+    file: &[u8],
+    left: form::Summary,
+    right: form::Summary,
+) -> Result<form::Summary, JoinRefusal>
+    ensures { JoinSays file.now left right (reply_of result) }
+{
+    let r = template::read(file);
+    let template::Reading::Sound(shape) = r else {
+        return Err(JoinRefusal::BadFile(template::place(r)));
+    };
+    if !is_summary(left, shape.names, usize::from(shape.states)) {
+        return Err(JoinRefusal::NoSummary);
     }
+    if !is_summary(right, shape.names, usize::from(shape.states)) {
+        return Err(JoinRefusal::NoSummary);
+    }
+    join_summaries(file, shape, left, right)
 }
 
 // The summary of two fragments in a row, from their summaries: 7, 15, 11, 12; else the joined summary.
 pub fn join(file: &[u8], left: form::Summary, right: form::Summary) -> JoinReply
     ensures { JoinSays file.now left right result }
 {
-    let r = template::read(file);
-    let template::Reading::Sound(shape) = r else {
-        return join_refused(JoinAnswer::BadFile(template::place(r)));
-    };
-    if !is_summary(left, shape.names, numbers::wide(shape.states)) {
-        return join_refused(JoinAnswer::NoSummary);
-    }
-    if !is_summary(right, shape.names, numbers::wide(shape.states)) {
-        return join_refused(JoinAnswer::NoSummary);
-    }
-    join_summaries(file, shape, left, right)
+    reply_of(join_under(file, left, right))
 }
 
 // Starts minus ends.
@@ -253,94 +275,89 @@ fn difference(starts: usize, ends: usize) -> i32
 }
 
 // The net depth of a summary: 7, 15; else starts minus ends.
-pub fn net_depth(file: &[u8], s: form::Summary) -> DepthReply
+pub fn net_depth(file: &[u8], s: form::Summary) -> Result<i32, DepthRefusal>
     ensures { DepthSays file.now s result }
 {
     let r = template::read(file);
     let template::Reading::Sound(shape) = r else {
-        return DepthReply::BadFile(template::place(r));
+        return Err(DepthRefusal::BadFile(template::place(r)));
     };
-    if !is_summary(s, shape.names, numbers::wide(shape.states)) {
-        return DepthReply::NoSummary;
+    if !is_summary(s, shape.names, usize::from(shape.states)) {
+        return Err(DepthRefusal::NoSummary);
     }
     let c = s.counts;
-    DepthReply::Net(difference(c.starts, c.ends))
+    Ok(difference(c.starts, c.ends))
 }
 
 // The replies in numbers (Rules, section 9).
-pub fn fragment_answer(a: FragmentAnswer) -> u32
+pub fn fragment_answer(a: Result<(), FragmentRefusal>) -> u32
     ensures { result ≡ fragment_answer a }
 {
     match a {
-        FragmentAnswer::Summarised => 0,
-        FragmentAnswer::BadFile(_) => 7,
-        FragmentAnswer::NotATag(_) => 10,
-        FragmentAnswer::Mismatch(_) => 11,
-        FragmentAnswer::TooDeep(_) => 12,
+        Ok(()) => 0,
+        Err(FragmentRefusal::BadFile(_)) => 7,
+        Err(FragmentRefusal::NotATag(_)) => 10,
+        Err(FragmentRefusal::Mismatch(_)) => 11,
+        Err(FragmentRefusal::TooDeep(_)) => 12,
     }
 }
 
-pub fn fragment_number(a: FragmentAnswer) -> u64
+pub fn fragment_number(a: Result<(), FragmentRefusal>) -> u64
     ensures { result ≡ fragment_number a }
 {
     match a {
-        FragmentAnswer::Summarised => 0,
-        FragmentAnswer::BadFile(p) => p as u64,
-        FragmentAnswer::NotATag(p) => p as u64,
-        FragmentAnswer::Mismatch(p) => p as u64,
-        FragmentAnswer::TooDeep(p) => p as u64,
+        Ok(()) => 0,
+        Err(
+            FragmentRefusal::BadFile(p)
+            | FragmentRefusal::NotATag(p)
+            | FragmentRefusal::Mismatch(p)
+            | FragmentRefusal::TooDeep(p),
+        ) => p as u64,
     }
 }
 
-pub fn join_answer(a: JoinAnswer) -> u32
+pub fn join_answer(a: Result<(), JoinRefusal>) -> u32
     ensures { result ≡ join_answer a }
 {
     match a {
-        JoinAnswer::Joined => 0,
-        JoinAnswer::BadFile(_) => 7,
-        JoinAnswer::NoSummary => 15,
-        JoinAnswer::Mismatch => 11,
-        JoinAnswer::TooDeep => 12,
+        Ok(()) => 0,
+        Err(JoinRefusal::BadFile(_)) => 7,
+        Err(JoinRefusal::NoSummary) => 15,
+        Err(JoinRefusal::Mismatch) => 11,
+        Err(JoinRefusal::TooDeep) => 12,
     }
 }
 
-pub fn join_number(a: JoinAnswer) -> u64
+pub fn join_number(a: Result<(), JoinRefusal>) -> u64
     ensures { result ≡ join_number a }
 {
     match a {
-        JoinAnswer::Joined => 0,
-        JoinAnswer::BadFile(p) => p as u64,
-        JoinAnswer::NoSummary => 0,
-        JoinAnswer::Mismatch => 0,
-        JoinAnswer::TooDeep => 0,
+        Err(JoinRefusal::BadFile(p)) => p as u64,
+        Ok(()) | Err(JoinRefusal::NoSummary | JoinRefusal::Mismatch | JoinRefusal::TooDeep) => 0,
     }
 }
 
-pub fn depth_answer(r: DepthReply) -> u32
+pub fn depth_answer(r: Result<i32, DepthRefusal>) -> u32
     ensures { result ≡ depth_answer r }
 {
     match r {
-        DepthReply::Net(_) => 0,
-        DepthReply::BadFile(_) => 7,
-        DepthReply::NoSummary => 15,
+        Ok(_) => 0,
+        Err(DepthRefusal::BadFile(_)) => 7,
+        Err(DepthRefusal::NoSummary) => 15,
     }
 }
 
-pub fn depth_number(r: DepthReply) -> u64
+pub fn depth_number(r: Result<i32, DepthRefusal>) -> u64
     ensures { result ≡ depth_number r }
 {
     match r {
-        DepthReply::Net(_) => 0,
-        DepthReply::BadFile(p) => p as u64,
-        DepthReply::NoSummary => 0,
+        Err(DepthRefusal::BadFile(p)) => p as u64,
+        Ok(_) | Err(DepthRefusal::NoSummary) => 0,
     }
 }
 
-pub fn depth_of(r: DepthReply) -> i32
+pub fn depth_of(r: Result<i32, DepthRefusal>) -> i32
     ensures { result ≡ net_depth r }
 {
-    let DepthReply::Net(z) = r else {
-        return 0;
-    };
-    z
+    r.unwrap_or(0)
 }

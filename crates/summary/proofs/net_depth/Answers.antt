@@ -11,23 +11,23 @@ pub returns-in_default : goal.returns-in_default
 returns-in_default c = bad_at _ _ _ _ c.read-r.ensures c.in_default.is c.place.ensures
 
 pub is_summary-requires : goal.is_summary-requires
-is_summary-requires c = states_few _ _ (read_is _ _ _ c.read-r.ensures c.in-Sound.is) c.wide.result c.wide.ensures.0
+is_summary-requires c = states_few _ _ (read_is _ _ _ c.read-r.ensures c.in-Sound.is) c.from.result c.from.ensures
 
 pub returns-then-not-is_summary : goal.returns-then-not-is_summary
 returns-then-not-is_summary c = (
   shape_sound _ _ (read_is _ _ _ c.read-r.ensures c.in-Sound.is),
-  failed_summary _ _ (read_is _ _ _ c.read-r.ensures c.in-Sound.is) c.wide.result c.wide.ensures.0 _ c.is_summary.result c.is_summary.ensures
+  failed_summary _ _ (read_is _ _ _ c.read-r.ensures c.in-Sound.is) c.from.result c.from.ensures _ c.is_summary.result c.is_summary.ensures
       (rw c.if-not-is_summary.true),
 )
 
 pub difference-requires : goal.difference-requires
 difference-requires c =
-    (passed_summary _ _ (read_is _ _ _ c.read-r.ensures c.in-Sound.is) c.wide.result c.wide.ensures.0 _ c.is_summary.result c.is_summary.ensures
+    (passed_summary _ _ (read_is _ _ _ c.read-r.ensures c.in-Sound.is) c.from.result c.from.ensures _ c.is_summary.result c.is_summary.ensures
     (rw c.if-not-is_summary.false)).few
 
 pub returns : goal.returns
 returns c =
-    let summary = passed_summary _ _ (read_is _ _ _ c.read-r.ensures c.in-Sound.is) c.wide.result c.wide.ensures.0 c.args.s c.is_summary.result
+    let summary = passed_summary _ _ (read_is _ _ _ c.read-r.ensures c.in-Sound.is) c.from.result c.from.ensures c.args.s c.is_summary.result
     c.is_summary.ensures (rw c.if-not-is_summary.false) in (
       shape_sound _ _ (read_is _ _ _ c.read-r.ensures c.in-Sound.is),
       summary,

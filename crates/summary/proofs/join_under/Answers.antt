@@ -3,42 +3,41 @@
 use Rattle.template.proofs.ShapeLaws.{read_is, bad_at, shape_sound, states_few}
 use Rattle.summary.proofs.ShapeLaws.{passed_summary, failed_summary}
 use Rattle.summary.proofs.JoinedLaws.{join_bad, join_no_left, join_no_right}
-use Rattle.summary.proofs.join.Goals as goal
+use Rattle.summary.proofs.join_under.Goals as goal
 
 pub returns-in_default : goal.returns-in_default
 returns-in_default c =
-    join_bad _ c.args.left c.args.right c.join_refused.result _ c.join_refused.ensures
-    (bad_at _ _ _ _ c.read-r.ensures c.in_default.is c.place.ensures)
+    join_bad _ c.args.left c.args.right _ (bad_at _ _ _ _ c.read-r.ensures c.in_default.is c.place.ensures)
 
 pub is_summary-requires : goal.is_summary-requires
 is_summary-requires c =
     let sound = read_is _ _ _ c.read-r.ensures c.in-Sound.is in
-    states_few _ _ sound c.wide.result c.wide.ensures.0
+    states_few _ _ sound c.from.result c.from.ensures
 
 pub returns-then-not-is_summary : goal.returns-then-not-is_summary
 returns-then-not-is_summary c =
     let sound = read_is _ _ _ c.read-r.ensures c.in-Sound.is in
-    join_no_left _ c.args.left c.args.right c.join_refused-then-not-is_summary.result c.join_refused-then-not-is_summary.ensures (shape_sound _ _ sound)
-    (failed_summary _ _ sound c.wide.result c.wide.ensures.0 c.args.left c.is_summary.result c.is_summary.ensures (rw c.if-not-is_summary.true))
+    join_no_left _ c.args.left c.args.right (shape_sound _ _ sound)
+    (failed_summary _ _ sound c.from.result c.from.ensures c.args.left c.is_summary.result c.is_summary.ensures (rw c.if-not-is_summary.true))
 
 pub is_summary-requires-2 : goal.is_summary-requires-2
 is_summary-requires-2 c =
     let sound = read_is _ _ _ c.read-r.ensures c.in-Sound.is in
-    states_few _ _ sound c.wide-2.result c.wide-2.ensures.0
+    states_few _ _ sound c.from-2.result c.from-2.ensures
 
 pub returns-then-not-is_summary-2 : goal.returns-then-not-is_summary-2
 returns-then-not-is_summary-2 c =
     let sound = read_is _ _ _ c.read-r.ensures c.in-Sound.is in
-    join_no_right _ c.args.left c.args.right c.join_refused-then-not-is_summary-2.result c.join_refused-then-not-is_summary-2.ensures (shape_sound _ _ sound)
-    (failed_summary _ _ sound c.wide-2.result c.wide-2.ensures.0 c.args.right c.is_summary-2.result c.is_summary-2.ensures (rw c.if-not-is_summary-2.true))
+    join_no_right _ c.args.left c.args.right (shape_sound _ _ sound)
+    (failed_summary _ _ sound c.from-2.result c.from-2.ensures c.args.right c.is_summary-2.result c.is_summary-2.ensures (rw c.if-not-is_summary-2.true))
 
 pub join_summaries-requires : goal.join_summaries-requires
 join_summaries-requires c =
     let sound = read_is _ _ _ c.read-r.ensures c.in-Sound.is in
     record {
       file_value = sound;
-      summary_under = passed_summary _ _ sound c.wide.result c.wide.ensures.0 c.args.left c.is_summary.result c.is_summary.ensures
+      summary_under = passed_summary _ _ sound c.from.result c.from.ensures c.args.left c.is_summary.result c.is_summary.ensures
           (rw c.if-not-is_summary.false);
-      summary_under_2 = passed_summary _ _ sound c.wide-2.result c.wide-2.ensures.0 c.args.right c.is_summary-2.result c.is_summary-2.ensures
+      summary_under_2 = passed_summary _ _ sound c.from-2.result c.from-2.ensures c.args.right c.is_summary-2.result c.is_summary-2.ensures
           (rw c.if-not-is_summary-2.false);
     }
