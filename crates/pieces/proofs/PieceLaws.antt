@@ -4,25 +4,24 @@
 -- number is 1. Assumes nothing.
 use mathlib.Core.Path.{◌≡◌, refl, sym, ap, ap₂, ◌∙◌}
 use mathlib.Core.Logic.{◌↔◌}
-use mathlib.Core.Bool.{Bool, true, false, ◌&&◌}
+use mathlib.Core.Bool.{Bool, true, ◌&&◌}
 use mathlib.Core.List.{List}
 use Prim.Native.Nat.{ℕ, zero, suc, ◌+◌, ◌*◌, ◌/◌, ◌≤◌, ◌<◌}
 use native.Mathlib.Decide.{ℕ_discrete}
 use native.Mathlib.Omega.{arith}
-use lib.Dec.{eqb, leb}
+use lib.Dec.{eqb}
 use lib.ListN.{length, length-set, get_or, set, replicate, get_or-eq_default}
 use lib.Seq.{get_or-set_same, get_or-set_other, ext_get_or}
-use borrow.Author.Tests.{eqb-true, eq-eqb, ne_eqb, leb-true, le-leb}
-use borrow.Author.Rules.{rules}
-use Rattle.numbers.proofs.TestLaws.{and_out}
+use borrow.Author.Tests.{eqb-true, eq-eqb, leb-true, le-leb}
+use Rattle.std.proofs.lemmas.Bool.{and_parts}
 use Rattle.words.specs.Tags.{Tag, most_names}
 use Rattle.words.specs.Binoid.{Binoid, Laws, Value}
-use Rattle.words.specs.Outermost.{OutermostOf, several, at_most_several, outermost}
+use Rattle.words.specs.Outermost.{OutermostOf, several, outermost}
 use Rattle.words.proofs.ValueLaws.{value_balanced}
-use Rattle.words.proofs.OutermostLaws.{value_sides, beside_laws, few_stay, many_limited, outermost_few, outermost_laws, outermost_one, outermost_of}
+use Rattle.words.proofs.OutermostLaws.{value_sides, beside_laws, outermost_few, outermost_laws, outermost_one, outermost_of}
 use Rattle.hedge.specs.Schema.{most_states, Valid, schema_from, RulesBelow, EndsBelow}
 use Rattle.hedge.specs.Relation.{RelationOf}
-use Rattle.hedge.specs.Operations.{unit, compose, wrap, full, covers, relations}
+use Rattle.hedge.specs.Operations.{unit, compose, wrap, relations}
 use Rattle.hedge.proofs.NumberLaws.{relations_laws, relation_of_value, derives_accepts}
 use Rattle.hedge.proofs.CoverLaws.{covers_within}
 use Rattle.lore.specs.Lore.{NamesBelow, Taught, IsLore}
@@ -171,7 +170,7 @@ module _ (q : ℕ) (fits : q ≤ most_states) (rules ends : List ℕ) (rules_bel
       let (r, n) = value_lifted _ _ _ v in
       let derives = derives_accepts most_states q fits rules ends rules_below ends_below r in (
         λ e.
-            let (a, b) = and_out _ e in
+            let (a, b) = and_parts _ _ e in
             (value_balanced (relations most_states q rules ends) r, derives.0 a, (outermost_one n).0 (eqb-true p.outermost 1 b)),
         λ (b, d, o). rw (derives.1 d) (eq-eqb p.outermost 1 ((outermost_one n).1 o)),
       )
@@ -182,7 +181,7 @@ pub fits_within : (q : ℕ) (p : Piece) → (fits_in q p ≡ true) ↔ PieceWith
 unfolding fits_in
 fits_within q p =
     let c = covers_within most_states q p.relation in (
-      λ e. let (a, b) = and_out _ e in (c.0 a, leb-true p.outermost several b),
+      λ e. let (a, b) = and_parts _ _ e in (c.0 a, leb-true p.outermost several b),
       λ (w, l). rw (c.1 w) (le-leb p.outermost several l),
     )
 
@@ -190,55 +189,8 @@ fits_within q p =
 pub none_is : (p : Piece) → (is_none p ≡ true) ↔ (p ≡ zero_piece)
 unfolding is_none
 none_is p = (
-  λ e. let (a, b) = and_out _ e in ap₂ piece (eqb-true p.relation 0 a) (eqb-true p.outermost 0 b),
+  λ e. let (a, b) = and_parts _ _ e in ap₂ piece (eqb-true p.relation 0 a) (eqb-true p.outermost 0 b),
   λ e.
       rw (eq-eqb p.relation 0 (ap (λ (q : Piece). q.relation) e))
       (eq-eqb p.outermost 0 (ap (λ (q : Piece). q.outermost) e)),
 )
-
--- ---- in the words of the code
-
-pub piece_is : (r s m n : ℕ) → r ≡ s → m ≡ n → piece r m ≡ piece s n
-piece_is r s m n e d = ap₂ piece e d
-
--- outermost elements in a row: where either side has too many, and where neither has
-
-pub many_left : (m n r : ℕ) → several ≤ m → r ≡ several → r ≡ at_most_several (m + n)
-many_left m n r h e = e ∙ sym (many_limited (m + n) (omega arith))
-
-pub many_right : (m n r : ℕ) → several ≤ n → r ≡ several → r ≡ at_most_several (m + n)
-many_right m n r h e = e ∙ sym (many_limited (m + n) (omega arith))
-
-pub few_both : (m n r : ℕ) → m < several → n < several → r ≡ m + n → r ≡ at_most_several (m + n)
-few_both m n r h l e = e ∙ sym (few_stay (m + n) (omega arith))
-
--- a test and one more: where the first fails, and where it passes
-
-pub first_fails : (a b t : Bool) → t ≡ a → t ≡ false → t ≡ (a && b)
-first_fails a b t e f = rw (← e, f)
-
-pub first_passes : (a b t u : Bool) → t ≡ a → t ≡ true → u ≡ b → u ≡ (a && b)
-first_passes a b t u e f d = rw (← e, f) d
-
--- the number's test comes behind that of the relation
-
-module _ (p : Piece) where
-  pub not_none : (p.relation ≡ 0 → ⊥) → eqb p.relation 0 ≡ is_none p
-  unfolding is_none
-  not_none d = rw (ne_eqb p.relation 0 d)
-
-  pub then_none : p.relation ≡ 0 → eqb p.outermost 0 ≡ is_none p
-  unfolding is_none
-  then_none e = rw (eq-eqb p.relation 0 e)
-
-  module _ (q f : ℕ) (t : Bool) (whole : f ≡ full most_states q) (test : t ≡ covers f p.relation) where
-    pub not_covered : t ≡ false → t ≡ fits_in q p
-    unfolding fits_in
-    not_covered e = first_fails (covers (full most_states q) p.relation) _ t (rw (← whole) test) e
-
-    pub then_few : t ≡ true → leb p.outermost several ≡ fits_in q p
-    unfolding fits_in
-    then_few e = first_passes (covers (full most_states q) p.relation) _ t _ (rw (← whole) test) e refl
-
-pub ruleset parts =
-    (piece_is, many_left, many_right, few_both, first_fails, first_passes, not_none, then_none, not_covered, then_few, rules)

@@ -21,13 +21,22 @@ pub const SEVERAL: u64 = 2;
 
 // What stands before, between or after the tags of a form: the relation of a balanced word, and how many outermost elements it has, 0, 1,
 // or 2 for more.
-#[derive(Clone, Copy)]
+#[derive(Clone, Copy, Debug, PartialEq, Eq)]
 pub struct Piece {
     pub relation: u64,
     pub outermost: u64,
 }
 
+impl Piece {
+    // What stands at an unused place.
+    pub const NONE: Piece = Piece {
+        relation: 0,
+        outermost: 0,
+    };
+}
+
 // Piece k of a form.
+#[tactic(auto, unfolding(crate::specs::Pieces::piece_at))]
 pub fn piece_at(pieces: &[u64; PIECES], k: usize) -> Piece
     requires { k ≤ most_tags }
     ensures { result ≡ piece_at pieces.now k }
@@ -40,6 +49,7 @@ pub fn piece_at(pieces: &[u64; PIECES], k: usize) -> Piece
 }
 
 // Writes piece k of a form.
+#[tactic(auto, unfolding(crate::specs::Pieces::put_piece))]
 pub fn put_piece(pieces: &mut [u64; PIECES], k: usize, p: Piece)
     requires { k ≤ most_tags }
     ensures { pieces.new ≡ put_piece pieces.old k p }
@@ -53,17 +63,15 @@ pub fn put_piece(pieces: &mut [u64; PIECES], k: usize, p: Piece)
 pub fn no_piece() -> Piece
     ensures { result ≡ zero_piece }
 {
-    Piece {
-        relation: 0,
-        outermost: 0,
-    }
+    Piece::NONE
 }
 
 // Is it what stands at an unused place?
+#[tactic(auto, unfolding(crate::specs::Pieces::is_none))]
 pub fn is_none(p: Piece) -> bool
     ensures { result ≡ is_none p }
 {
-    p.relation == 0 && p.outermost == 0
+    p == Piece::NONE
 }
 
 // The empty word's.
@@ -77,16 +85,11 @@ pub fn empty(lore: &[u64; lore::LORE]) -> Piece
 }
 
 // The outermost elements of two words in a row: what is too many on either side is too many.
+#[tactic(auto, unfolding(words::specs::Outermost::at_most_several))]
 fn added(m: u64, n: u64) -> u64
     ensures { result ≡ at_most_several (m + n) }
 {
-    if SEVERAL <= m {
-        return SEVERAL;
-    }
-    if SEVERAL <= n {
-        return SEVERAL;
-    }
-    m + n
+    m.saturating_add(n).min(SEVERAL)
 }
 
 // That of two words in a row.
@@ -112,6 +115,7 @@ pub fn element(lore: &[u64; lore::LORE], name: u8, inner: Piece) -> Piece
 }
 
 // Does the piece stay within so many states, and is its count one of 0, 1 and 2?
+#[tactic(auto, unfolding(crate::specs::Pieces::fits_in))]
 pub fn fits(states: usize, p: Piece) -> bool
     requires { states ≤ most_states }
     ensures { result ≡ fits_in states p }
@@ -120,6 +124,7 @@ pub fn fits(states: usize, p: Piece) -> bool
 }
 
 // Does state 0 derive a word of this piece, and is it one element?
+#[tactic(auto, unfolding(crate::specs::Pieces::accepts_piece))]
 pub fn accepts(lore: &[u64; lore::LORE], p: Piece) -> bool
     ensures { result ≡ accepts_piece lore.now p }
 {
