@@ -1,7 +1,7 @@
 -- The ascent of entries: two lists of bytes compared from a place on, by the bytes there, and an entry that is not its body's first.
 -- Each law opens the definition once and rewrites by what the tests of the two bytes say. Assumes nothing.
-use mathlib.Core.Path.{◌≡◌, refl}
-use mathlib.Core.Bool.{true, false, ◌&&◌, ◌||◌}
+use mathlib.Core.Path.{◌≡◌, refl, sym}
+use mathlib.Core.Bool.{true, false, or-false}
 use mathlib.Core.List.{List, [], ◌∷◌}
 use Prim.Native.Nat.{ℕ, ◌+◌, ◌-◌, ◌≤◌, ◌<◌}
 use native.Mathlib.Numerals.{add-one}
@@ -12,36 +12,27 @@ use lib.ListN.{length, get_or, take, drop, drop_of_length-le}
 use lib.Seq.{drop-cons}
 use Rattle.entries.specs.Entries.{precedes, ascends}
 
--- the comparison, none and next
+-- the comparison: a list at its end, and the next two bytes
 
-precedes_none : (xs : List ℕ) → false ≡ precedes xs []
+pub precedes_past_left : (a b : List ℕ) → length a ≡ 0 → false ≡ precedes a b
 unfolding precedes
-precedes_none [] = refl
-precedes_none (x ∷ xs) = refl
+precedes_past_left [] b h = refl
+precedes_past_left (x ∷ a) b h = absurd (omega arith)
 
-pub precedes_past_left : (a b : List ℕ) (i : ℕ) → length a ≤ i → false ≡ precedes (drop i a) (drop i b)
+pub precedes_past_right : (a b : List ℕ) → length b ≡ 0 → false ≡ precedes a b
 unfolding precedes
-precedes_past_left a b i h = rw (drop_of_length-le a h)
+precedes_past_right [] [] h = refl
+precedes_past_right (x ∷ a) [] h = refl
+precedes_past_right a (y ∷ b) h = absurd (omega arith)
 
-pub precedes_past_right : (a b : List ℕ) (i : ℕ) → length b ≤ i → false ≡ precedes (drop i a) (drop i b)
-precedes_past_right a b i h = rw (drop_of_length-le b h) (precedes_none (drop i a))
-
-module _ (a b : List ℕ) (i : ℕ) (ha : i < length a) (hb : i < length b) where
-  pub precedes_next : precedes (drop i a) (drop i b)
-      ≡ ltb (get_or a i 0) (get_or b i 0) || (eqb (get_or a i 0) (get_or b i 0) && precedes (drop (i + 1) a) (drop (i + 1) b))
+module _ {a b a' b' : List ℕ} {x y : ℕ} (here : (a ≡ x ∷ a') × (b ≡ y ∷ b')) where
+  pub precedes_same : x ≡ y → precedes a b ≡ precedes a' b'
   unfolding precedes
-  precedes_next = rw (add-one, drop-cons a i 0, drop-cons b i 0)
+  precedes_same e = rw (here.0, here.1, le-ltb x y (omega arith), eq-eqb x y e)
 
-  pub precedes_less : get_or a i 0 < get_or b i 0 → true ≡ precedes (drop i a) (drop i b)
-  precedes_less h = rw (precedes_next, lt-ltb _ _ h)
-
-  pub precedes_more : get_or b i 0 < get_or a i 0 → false ≡ precedes (drop i a) (drop i b)
-  precedes_more h =
-      rw (precedes_next, le-ltb (get_or a i 0) (get_or b i 0) (omega arith), ne_eqb (get_or a i 0) (get_or b i 0) (λ e. omega arith))
-
-  pub precedes_same : get_or b i 0 ≤ get_or a i 0 → get_or a i 0 ≤ get_or b i 0
-      → precedes (drop i a) (drop i b) ≡ precedes (drop (i + 1) a) (drop (i + 1) b)
-  precedes_same h k = rw (precedes_next, le-ltb _ _ h, eq-eqb (get_or a i 0) (get_or b i 0) (omega arith))
+  pub precedes_differs : (x ≡ y → ⊥) → ltb x y ≡ precedes a b
+  unfolding precedes
+  precedes_differs d = rw (here.0, here.1, ne_eqb x y d) (sym (or-false (ltb x y)))
 
 -- the entry is its body's first, or a later one
 

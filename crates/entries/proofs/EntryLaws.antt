@@ -9,10 +9,10 @@ use lib.ListN.{take, drop}
 use borrow.Author.Tests.{lt-leb}
 use Rattle.entries.specs.Tests.{test, first_fault}
 use Rattle.entries.specs.Entries.{field_tests, width, precedes, ascends, entry_tests, body_tests}
-use Rattle.entries.specs.declared.Fault.TheVariants.{Nowhere}
+use Rattle.std.specs.Prelude.{Ok}
 use Rattle.entries.specs.declared.Body.{Body}
 use Rattle.entries.specs.declared.Body.TheVariants.{Templates, Schema, Endings}
-use Rattle.entries.proofs.OrderLaws.{TestsHold, nowhere_holds, first_nowhere, first_append_nowhere}
+use Rattle.entries.proofs.OrderLaws.{TestsHold, ok_holds, first_ok, first_append_ok}
 
 -- entry i of a list, each entry of the same width
 abbrev pub entry : ℕ → List ℕ → ℕ → List ℕ
@@ -23,37 +23,37 @@ abbrev pub EntriesAscend : ℕ → ℕ → List ℕ → Type 0
 EntriesAscend wide n l = (i : ℕ) → suc i < n → precedes (entry wide l i) (entry wide l (suc i)) ≡ true
 
 -- every entry passes its tests
-body_entry : (b : Body) (A N Q : ℕ) (f : List ℕ) (first at n i : ℕ) → first_fault (body_tests b A N Q f first at n) ≡ Nowhere → i < n
-    → first_fault (entry_tests b A N Q f first (at + width b * i)) ≡ Nowhere
+body_entry : (b : Body) (A N Q : ℕ) (f : List ℕ) (first at n i : ℕ) → first_fault (body_tests b A N Q f first at n) ≡ Ok tt → i < n
+    → first_fault (entry_tests b A N Q f first (at + width b * i)) ≡ Ok tt
 unfolding body_tests
 body_entry b A N Q f first at zero i e h = absurd (omega arith)
 body_entry b A N Q f first at (suc n) zero e h =
     let p : at + width b * zero ≡ at = omega arith in
-    rw p (first_append_nowhere (entry_tests b A N Q f first at) (body_tests b A N Q f first (at + width b) n) e).0
+    rw p (first_append_ok (entry_tests b A N Q f first at) (body_tests b A N Q f first (at + width b) n) e).0
 body_entry b A N Q f first at (suc n) (suc i) e h =
-    let k = first_append_nowhere (entry_tests b A N Q f first at) (body_tests b A N Q f first (at + width b) n) e in
+    let k = first_append_ok (entry_tests b A N Q f first at) (body_tests b A N Q f first (at + width b) n) e in
     let p : at + width b + width b * i ≡ at + width b * suc i = omega arith in
-    subst (λ (q : ℕ). first_fault (entry_tests b A N Q f first q) ≡ Nowhere) p
+    subst (λ (q : ℕ). first_fault (entry_tests b A N Q f first q) ≡ Ok tt) p
     (body_entry b A N Q f first (at + width b) n i k.1 (omega arith))
 
-module _ (b : Body) (A N Q : ℕ) (f : List ℕ) (first n : ℕ) (e : first_fault (body_tests b A N Q f first first n) ≡ Nowhere) where
-  pub body_fields : (i : ℕ) → i < n → first_fault (field_tests b A N Q f (first + width b * i)) ≡ Nowhere
+module _ (b : Body) (A N Q : ℕ) (f : List ℕ) (first n : ℕ) (e : first_fault (body_tests b A N Q f first first n) ≡ Ok tt) where
+  pub body_fields : (i : ℕ) → i < n → first_fault (field_tests b A N Q f (first + width b * i)) ≡ Ok tt
   unfolding entry_tests
   body_fields i h =
       let at = first + width b * i in
-      (first_append_nowhere (field_tests b A N Q f at) (test (ascends (width b) f first at) at ∷ [])
+      (first_append_ok (field_tests b A N Q f at) (test (ascends (width b) f first at) at ∷ [])
       (body_entry b A N Q f first first n i e h)).0
 
   pub fields_hold : (i : ℕ) → i < n → TestsHold (field_tests b A N Q f (first + width b * i))
-  fields_hold i h = nowhere_holds (field_tests b A N Q f (first + width b * i)) (body_fields i h)
+  fields_hold i h = ok_holds (field_tests b A N Q f (first + width b * i)) (body_fields i h)
 
   pub body_ascends : (i : ℕ) → i < n → ascends (width b) f first (first + width b * i) ≡ true
   unfolding entry_tests
   body_ascends i h =
       let at = first + width b * i in
       let last = test (ascends (width b) f first at) at in
-      (first_nowhere last []
-      (first_append_nowhere (field_tests b A N Q f at) (last ∷ []) (body_entry b A N Q f first first n i e h)).1).0
+      (first_ok last []
+      (first_append_ok (field_tests b A N Q f at) (last ∷ []) (body_entry b A N Q f first first n i e h)).1).0
 
 -- an entry that ascends and is not the first comes after the one before it
 pub ascends_precedes : (wide : ℕ) (f : List ℕ) (first i : ℕ) → 0 < wide → ascends wide f first (first + wide * suc i) ≡ true

@@ -2,18 +2,17 @@
 -- them, and what holds where none fails. Each law opens the definition once; `symbols_hold` goes by induction on the symbols left. Assumes nothing.
 use mathlib.Core.Path.{◌≡◌}
 use mathlib.Core.Bool.{Bool, true, false}
-use mathlib.Core.List.{List}
+use mathlib.Core.List.{List, [], ◌∷◌}
 use Prim.Native.Nat.{ℕ, zero, suc, ◌+◌, ◌-◌, ◌≤◌, ◌<◌}
 use native.Mathlib.Numerals.{add-one}
 use native.Mathlib.Omega.{arith}
 use lib.Dec.{ltb}
 use borrow.Author.Tests.{lt-ltb, le-ltb, le-leb, lt-leb, ltb-true, leb-true}
-use Rattle.entries.specs.Tests.{first_fault}
 use Rattle.entries.specs.Entries.{byte_at, is_symbol, symbol_holds, symbol_tests, field_tests}
-use Rattle.entries.specs.declared.Fault.{Fault}
-use Rattle.entries.specs.declared.Fault.TheVariants.{Nowhere, At}
+use Rattle.std.specs.Prelude.{Ok}
+use Rattle.entries.specs.Tests.{test, Tested, first_fault}
 use Rattle.entries.specs.declared.Body.TheVariants.{Templates}
-use Rattle.entries.proofs.OrderLaws.{first_nowhere}
+use Rattle.entries.proofs.OrderLaws.{first_ok}
 
 -- is a byte a symbol, by its range
 
@@ -40,56 +39,40 @@ module _ (A N : ℕ) (f : List ℕ) (at : ℕ) where
 
   -- the symbols left
   module _ (symbols j : ℕ) where
-    pub symbols_end : symbols ≤ j → Nowhere ≡ first_fault (symbol_tests A N f at j (symbols - j))
+    pub symbols_end : symbols ≤ j → Ok tt ≡ first_fault (symbol_tests A N f at j (symbols - j))
     unfolding symbol_tests first_fault
     symbols_end h = let none : symbols - j ≡ 0 = omega arith in rw none
 
-    -- one more is left, and its test is known
-    module _ {used : ℕ} {holds : Bool} (h : j < symbols) (length : used ≡ byte_at f (at + 1))
-        (made : holds ≡ symbol_holds (ltb j used) A N (byte_at f (at + 2 + j))) where
-      more : symbols - j ≡ suc (symbols - (j + 1))
-      more = omega arith
+    -- one more is left: its test, then those behind it
+    pub symbols_next : j < symbols
+        → symbol_tests A N f at j (symbols - j) ≡ test (symbol_at j) (at + 2 + j) ∷ symbol_tests A N f at (j + 1) (symbols - (j + 1))
+    unfolding symbol_tests
+    symbols_next h = let more : symbols - j ≡ suc (symbols - (j + 1)) = omega arith in rw (more, add-one j)
 
-      pub symbols-fault : holds ≡ false → At (at + 2 + j) ≡ first_fault (symbol_tests A N f at j (symbols - j))
-      unfolding symbol_tests first_fault
-      symbols-fault fails = rw (more, ← length, ← made, fails)
-
-      pub symbols_further : holds ≡ true
-          → first_fault (symbol_tests A N f at j (symbols - j)) ≡ first_fault (symbol_tests A N f at (j + 1) (symbols - (j + 1)))
-      unfolding symbol_tests first_fault
-      symbols_further passes = rw (more, ← length, ← made, passes, add-one j)
+  -- the test of symbol j, by the rule's length and the symbol as they were read
+  pub symbol_tested : (j : ℕ) {used : ℕ} {holds : Bool} {e : Tested} → used ≡ byte_at f (at + 1)
+      → holds ≡ symbol_holds (ltb j used) A N (byte_at f (at + 2 + j)) → e ≡ first_fault (test holds (at + 2 + j) ∷ [])
+      → e ≡ first_fault (test (symbol_at j) (at + 2 + j) ∷ [])
+  symbol_tested j length made tested = rw (← length, ← made) tested
 
   -- no fault: every symbol passes
-  pub symbols_hold : (j n : ℕ) → first_fault (symbol_tests A N f at j n) ≡ Nowhere → (i : ℕ) → i < n → symbol_at (j + i) ≡ true
+  pub symbols_hold : (j n : ℕ) → first_fault (symbol_tests A N f at j n) ≡ Ok tt → (i : ℕ) → i < n → symbol_at (j + i) ≡ true
   unfolding symbol_tests
   symbols_hold j zero e i h = absurd (omega arith)
-  symbols_hold j (suc n) e zero h = let here : j + zero ≡ j = omega arith in rw here (first_nowhere _ _ e).0
+  symbols_hold j (suc n) e zero h = let here : j + zero ≡ j = omega arith in rw here (first_ok _ _ e).0
   symbols_hold j (suc n) e (suc i) h =
       let there : suc j + i ≡ j + suc i = omega arith in
-      rw there at (symbols_hold (suc j) n (first_nowhere _ _ e).1 i (omega arith))
+      rw there at (symbols_hold (suc j) n (first_ok _ _ e).1 i (omega arith))
 
   -- the whole rule
   module _ (symbols Q : ℕ) where
-    pub rule_left : N ≤ byte_at f at → At at ≡ first_fault (field_tests (Templates symbols) A N Q f at)
-    unfolding field_tests first_fault
-    rule_left h = rw (le-ltb _ _ h)
-
-    pub rule_long : byte_at f at < N → symbols < byte_at f (at + 1) → At (at + 1) ≡ first_fault (field_tests (Templates symbols) A N Q f at)
-    unfolding field_tests first_fault
-    rule_long h k = rw (lt-ltb _ _ h, lt-leb _ _ k)
-
-    pub rule_rest : {z : Fault} → byte_at f at < N → byte_at f (at + 1) ≤ symbols → z ≡ first_fault (symbol_tests A N f at 0 symbols)
-        → z ≡ first_fault (field_tests (Templates symbols) A N Q f at)
-    unfolding field_tests first_fault
-    rule_rest h k rest = rw (lt-ltb _ _ h, le-leb _ _ k) rest
-
     -- no fault: its left side, its length, and its symbols
-    pub rule_holds : first_fault (field_tests (Templates symbols) A N Q f at) ≡ Nowhere
+    pub rule_holds : first_fault (field_tests (Templates symbols) A N Q f at) ≡ Ok tt
         → (byte_at f at < N) × (byte_at f (at + 1) ≤ symbols) × ((j : ℕ) → j < symbols → symbol_at j ≡ true)
     unfolding field_tests
     rule_holds e =
-        let left = first_nowhere _ _ e in
-        let long = first_nowhere _ _ left.1 in (
+        let left = first_ok _ _ e in
+        let long = first_ok _ _ left.1 in (
           ltb-true (byte_at f at) N left.0,
           leb-true (byte_at f (at + 1)) symbols long.0,
           λ j h. let e : 0 + j ≡ j = omega arith in rw e at (symbols_hold 0 symbols long.1 j h),

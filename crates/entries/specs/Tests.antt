@@ -1,7 +1,6 @@
 -- A list of tests, each with the place that is given where it fails: the first test that fails decides.
-use Rattle.std.specs.Prelude.{Bool, true, false, List, [], ◌∷◌, ℕ}
+use Rattle.std.specs.Prelude.{Bool, true, false, List, [], ◌∷◌, ℕ, Result, Ok, Err}
 use Rattle.entries.specs.declared.Fault.{Fault}
-use Rattle.entries.specs.declared.Fault.TheVariants.{Nowhere, At}
 
 -- what must hold, and the place that is given where it does not
 pub record Test : Type 0 where
@@ -11,16 +10,23 @@ pub record Test : Type 0 where
 abbrev pub test : Bool → ℕ → Test
 test b p = record { holds = b; place = p }
 
+-- every test holds, or the first that fails is at a place
+abbrev pub Tested : Type 0
+Tested = Result Unit Fault
+
+abbrev pub fault_at : ℕ → Tested
+fault_at p = Err (record { place = p })
+
 -- the first test that fails decides
-abbrev pub unless : Bool → Fault → Fault → Fault
+abbrev pub unless : Bool → Tested → Tested → Tested
 unless true f g = g
 unless false f g = f
 
-unfoldable pub first_fault : List Test → Fault
-first_fault [] = Nowhere
-first_fault (t ∷ ts) = unless t.holds (At t.place) (first_fault ts)
+unfoldable pub first_fault : List Test → Tested
+first_fault [] = Ok tt
+first_fault (t ∷ ts) = unless t.holds (fault_at t.place) (first_fault ts)
 
 -- an earlier fault stays
-abbrev pub or_then : Fault → Fault → Fault
-or_then Nowhere g = g
-or_then (At p) g = At p
+abbrev pub or_then : Tested → Tested → Tested
+or_then (Ok u) g = g
+or_then (Err f) g = Err f

@@ -6,11 +6,10 @@ ghost use Rattle.entries.specs.Tests.{test, or_then, first_fault};
 ghost use Rattle.entries.specs.Entries.{rule_width, is_symbol, symbol_holds, symbol_tests, field_tests};
 ghost use Rattle.entries.specs.Entries.{width, precedes, ascends, entry_tests, body_tests};
 
-// Where the first fault is.
-#[derive(Clone, Copy)]
-pub enum Fault {
-    Nowhere,
-    At(usize),
+// A fault of a file: the place of the first test that fails.
+#[derive(Clone, Copy, Debug, PartialEq, Eq)]
+pub struct Fault {
+    pub place: usize,
 }
 
 // The three bodies of a file; a template rule has so many symbols.
@@ -29,20 +28,11 @@ pub struct Sizes {
     pub states: u8,
 }
 
-// One test more in the order of reading: an earlier fault stays.
-pub fn then_test(fault: Fault, holds: bool, place: usize) -> Fault
-    ensures { result ≡ or_then fault (first_fault (test holds place ∷ [])) }
+// One test of the order of reading: what must hold, and the place that is given where it does not.
+pub fn test(holds: bool, place: usize) -> Result<(), Fault>
+    ensures { result ≡ first_fault (test holds place ∷ []) }
 {
-    match fault {
-        Fault::At(p) => Fault::At(p),
-        Fault::Nowhere => {
-            if holds {
-                Fault::Nowhere
-            } else {
-                Fault::At(place)
-            }
-        }
-    }
+    if holds { Ok(()) } else { Err(Fault { place }) }
 }
 
 // Is the byte a tag or a nonterminal of a file with that many names and nonterminals? The ranges are asked from the lowest on.
@@ -52,17 +42,17 @@ fn is_symbol(names: u8, nonterminals: u8, byte: u8) -> bool
     if byte < names {
         return true;
     }
-    let b = numbers::wide(byte);
+    let b = usize::from(byte);
     if b < 32 {
         return false;
     }
-    if b < 32 + numbers::wide(names) {
+    if b < 32 + usize::from(names) {
         return true;
     }
     if b < 64 {
         return false;
     }
-    b < 64 + numbers::wide(nonterminals)
+    b < 64 + usize::from(nonterminals)
 }
 
 // A used place holds a symbol, an unused one 255.
@@ -77,56 +67,38 @@ fn symbol_holds(used: bool, names: u8, nonterminals: u8, byte: u8) -> bool
 }
 
 // A template rule's symbols, left to right.
-fn symbols_fault(file: &[u8], s: Sizes, symbols: u8, at: usize) -> Fault
+fn test_symbols(file: &[u8], s: Sizes, symbols: u8, at: usize) -> Result<(), Fault>
     requires { at + rule_width symbols ≤ length file.now }
     ensures { result ≡ first_fault (symbol_tests s.names s.nonterminals file.now at 0 symbols) }
 {
-    let used = numbers::wide(file[at + 1]);
-    let count = numbers::wide(symbols);
-    let mut j = 0;
-    while j < count {
+    let used = usize::from(file[at + 1]);
+    for j in 0..usize::from(symbols) {
         let place = at + 2 + j;
         let holds = symbol_holds(j < used, s.names, s.nonterminals, file[place]);
-        if !holds {
-            return Fault::At(place);
-        }
-        j += 1;
+        test(holds, place)?;
     }
-    Fault::Nowhere
+    Ok(())
 }
 
 // A template rule's fields, left to right. Here and in a schema rule a fault leaves at once, so that a sound entry costs a comparison a field.
-fn rule_fault(file: &[u8], s: Sizes, symbols: u8, at: usize) -> Fault
+fn test_rule(file: &[u8], s: Sizes, symbols: u8, at: usize) -> Result<(), Fault>
     requires { at + rule_width symbols ≤ length file.now }
     ensures { result ≡ first_fault (field_tests (Body.Templates symbols) s.names s.nonterminals s.states file.now at) }
 {
-    if s.nonterminals <= file[at] {
-        return Fault::At(at);
-    }
-    if symbols < file[at + 1] {
-        return Fault::At(at + 1);
-    }
-    symbols_fault(file, s, symbols, at)
+    test(file[at] < s.nonterminals, at)?;
+    test(file[at + 1] <= symbols, at + 1)?;
+    test_symbols(file, s, symbols, at)
 }
 
 // A schema rule's fields, left to right.
-fn schema_fault(file: &[u8], s: Sizes, at: usize) -> Fault
+fn test_schema_rule(file: &[u8], s: Sizes, at: usize) -> Result<(), Fault>
     requires { at + 4 ≤ length file.now }
     ensures { result ≡ first_fault (field_tests Body.Schema s.names s.nonterminals s.states file.now at) }
 {
-    if s.states <= file[at] {
-        return Fault::At(at);
-    }
-    if s.names <= file[at + 1] {
-        return Fault::At(at + 1);
-    }
-    if s.states <= file[at + 2] {
-        return Fault::At(at + 2);
-    }
-    if s.states <= file[at + 3] {
-        return Fault::At(at + 3);
-    }
-    Fault::Nowhere
+    test(file[at] < s.states, at)?;
+    test(file[at + 1] < s.names, at + 1)?;
+    test(file[at + 2] < s.states, at + 2)?;
+    test(file[at + 3] < s.states, at + 3)
 }
 
 // How many bytes an entry has.
@@ -134,21 +106,21 @@ fn width(body: Body) -> usize
     ensures { result ≡ width body }
 {
     match body {
-        Body::Templates(symbols) => 2 + numbers::wide(symbols),
+        Body::Templates(symbols) => 2 + usize::from(symbols),
         Body::Schema => 4,
         Body::Endings => 1,
     }
 }
 
 // An entry's fields, left to right.
-fn field_fault(file: &[u8], s: Sizes, body: Body, at: usize) -> Fault
+fn test_fields(file: &[u8], s: Sizes, body: Body, at: usize) -> Result<(), Fault>
     requires { at + width body ≤ length file.now }
     ensures { result ≡ first_fault (field_tests body s.names s.nonterminals s.states file.now at) }
 {
     match body {
-        Body::Templates(symbols) => rule_fault(file, s, symbols, at),
-        Body::Schema => schema_fault(file, s, at),
-        Body::Endings => then_test(Fault::Nowhere, file[at] < s.states, at),
+        Body::Templates(symbols) => test_rule(file, s, symbols, at),
+        Body::Schema => test_schema_rule(file, s, at),
+        Body::Endings => test(file[at] < s.states, at),
     }
 }
 
@@ -156,18 +128,10 @@ fn field_fault(file: &[u8], s: Sizes, body: Body, at: usize) -> Fault
 fn precedes(left: &[u8], right: &[u8]) -> bool
     ensures { result ≡ precedes left.now right.now }
 {
-    let mut i = 0;
-    while i < left.len() {
-        if right.len() <= i {
-            return false;
+    for (x, y) in left.iter().zip(right) {
+        if x != y {
+            return x < y;
         }
-        if left[i] < right[i] {
-            return true;
-        }
-        if right[i] < left[i] {
-            return false;
-        }
-        i += 1;
     }
     false
 }
@@ -186,31 +150,22 @@ fn ascends(file: &[u8], wide: usize, first: usize, at: usize) -> bool
 }
 
 // One entry: its fields, then the ascent.
-fn entry_fault(file: &[u8], s: Sizes, body: Body, first: usize, at: usize) -> Fault
+fn test_entry(file: &[u8], s: Sizes, body: Body, first: usize, at: usize) -> Result<(), Fault>
     requires { (width body ≤ at) × (at + width body ≤ length file.now) }
     ensures { result ≡ first_fault (entry_tests body s.names s.nonterminals s.states file.now first at) }
 {
-    let f = field_fault(file, s, body, at);
-    if let Fault::At(p) = f {
-        return Fault::At(p);
-    }
-    then_test(Fault::Nowhere, ascends(file, width(body), first, at), at)
+    test_fields(file, s, body, at)?;
+    test(ascends(file, width(body), first, at), at)
 }
 
 // The entries of a body in turn: the first fault decides.
-pub fn body_fault(file: &[u8], s: Sizes, body: Body, first: usize, count: usize) -> Fault
+pub fn test_body(file: &[u8], s: Sizes, body: Body, first: usize, count: usize) -> Result<(), Fault>
     requires { (width body ≤ first) × (first + width body * count ≤ length file.now) }
     ensures { result ≡ first_fault (body_tests body s.names s.nonterminals s.states file.now first first count) }
 {
-    let mut at = first;
-    let mut k = 0;
-    while k < count {
-        let f = entry_fault(file, s, body, first, at);
-        if let Fault::At(p) = f {
-            return Fault::At(p);
-        }
-        at += width(body);
-        k += 1;
+    let wide = width(body);
+    for k in 0..count {
+        test_entry(file, s, body, first, first + wide * k)?;
     }
-    Fault::Nowhere
+    Ok(())
 }

@@ -15,12 +15,12 @@ use Rattle.numbers.proofs.TestLaws.{and_out}
 use Rattle.hedge.specs.Schema.{most_states}
 use Rattle.entries.specs.Tests.{Test, test, first_fault, or_then}
 use Rattle.entries.specs.Entries.{byte_at, rule_symbols}
-use Rattle.entries.specs.declared.Fault.{Fault}
-use Rattle.entries.specs.declared.Fault.TheVariants.{Nowhere, At}
+use Rattle.std.specs.Prelude.{Result, Ok, Err}
+use Rattle.entries.specs.Tests.{Tested, fault_at}
 use Rattle.template.specs.Layout.{most_rules, most_schema_rules, longest_file, half_at, states, rule_count, schema_count, ending_count, schema_start}
 use Rattle.template.specs.Layout.{ending_start, bodies_end}
 use Rattle.template.specs.Order.{head_tests, contents_tests, bodies, tests, IsSound, shape_of, reading_of, reading}
-use Rattle.entries.proofs.OrderLaws.{first_append, nowhere_holds}
+use Rattle.entries.proofs.OrderLaws.{first_append, ok_holds}
 use Rattle.template.proofs.SoundLaws.{sound_file, sound_length}
 use Rattle.rounds.specs.declared.CheckReply.{CheckReply}
 use Rattle.rounds.specs.declared.CheckReply.TheVariants as check
@@ -45,8 +45,8 @@ start_tests f =
 end_before : (f : List ℕ) → first_fault (head_tests f) ≡ Nowhere → first_fault (start_tests f) ≡ Nowhere → bodies_end f ≤ longest_file
 unfolding head_tests start_tests
 end_before f head start =
-    let h = nowhere_holds (head_tests f) head in
-    let k = nowhere_holds (start_tests f) start in
+    let h = ok_holds (head_tests f) head in
+    let k = ok_holds (start_tests f) start in
     let q = leb-true (states f) most_states (and_out (leb 1 (states f)) h.1.1.1.0).1 in
     let rules = leb-true (rule_count f) most_rules k.1.0 in
     let schema = leb-true (schema_count f) most_schema_rules k.1.1.1.0 in
@@ -72,10 +72,10 @@ unfolding first_fault
 total_fails f e = rw e
 
 -- a fault of the head, of the contents, or else the total length
-abbrev long_fault : List ℕ → Fault
+abbrev long_fault : List ℕ → Tested
 long_fault f = or_then (first_fault (head_tests f)) (or_then (first_fault (start_tests f)) (At 0))
 
-last_fault : (f : List ℕ) → longest_file < length f → (x y : Fault) → first_fault (head_tests f) ≡ x → first_fault (start_tests f) ≡ y
+last_fault : (f : List ℕ) → longest_file < length f → (x y : Tested) → first_fault (head_tests f) ≡ x → first_fault (start_tests f) ≡ y
     → or_then x (or_then y (first_fault (last_tests f))) ≡ or_then x (or_then y (At 0))
 last_fault f long (At p) y e d = refl
 last_fault f long Nowhere (At p) e d = refl

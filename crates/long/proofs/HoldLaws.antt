@@ -14,7 +14,8 @@ use borrow.Author.Tests.{ltb-true, eqb-true, lt-ltb, le-ltb, le-leb}
 use Rattle.numbers.proofs.TestLaws.{ext_true, and_out, or_out}
 use Rattle.entries.specs.Tests.{first_fault}
 use Rattle.entries.specs.Entries.{rule_symbols, is_symbol, symbol_holds, symbol_tests, field_tests}
-use Rattle.entries.specs.declared.Fault.TheVariants.{Nowhere}
+use Rattle.std.specs.Prelude.{Result, Ok, Err}
+use Rattle.entries.specs.Tests.{Tested, fault_at}
 use Rattle.entries.specs.declared.Body.TheVariants.{Templates}
 use Rattle.template.specs.Layout.{name_count, nonterminals, rule_count, template_rules_of}
 use Rattle.template.proofs.SoundLaws.{SoundFileOf}

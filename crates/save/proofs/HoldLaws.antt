@@ -15,7 +15,8 @@ use Rattle.words.specs.Tags.{most_names}
 use Rattle.hedge.specs.Schema.{most_states}
 use Rattle.entries.specs.Tests.{first_fault}
 use Rattle.entries.specs.Entries.{rule_symbols, byte_at, field_tests, width, ascends, body_tests}
-use Rattle.entries.specs.declared.Fault.TheVariants.{Nowhere}
+use Rattle.std.specs.Prelude.{Result, Ok, Err}
+use Rattle.entries.specs.Tests.{Tested, fault_at}
 use Rattle.entries.specs.declared.Body.{Body}
 use Rattle.entries.specs.declared.Body.TheVariants.{Templates, Schema, Endings}
 use Rattle.template.specs.Layout.{first_body, most_nonterminals, most_rules, most_schema_rules, name_count, nonterminals, states, rule_count}

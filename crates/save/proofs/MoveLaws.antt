@@ -12,10 +12,11 @@ use lib.Dec.{leb}
 use lib.ListN.{take, drop}
 use Rattle.entries.specs.Tests.{Test, test, first_fault}
 use Rattle.entries.specs.Entries.{byte_at, symbol_tests, field_tests, width, precedes, ascends, entry_tests, body_tests}
-use Rattle.entries.specs.declared.Fault.TheVariants.{Nowhere}
+use Rattle.std.specs.Prelude.{Result, Ok, Err}
+use Rattle.entries.specs.Tests.{Tested, fault_at}
 use Rattle.entries.specs.declared.Body.{Body}
 use Rattle.entries.specs.declared.Body.TheVariants.{Templates, Schema, Endings}
-use Rattle.entries.proofs.OrderLaws.{first_nowhere, nowhere_append}
+use Rattle.entries.proofs.OrderLaws.{first_ok, ok_append}
 
 -- ---- tests that hold alike
 
@@ -32,7 +33,7 @@ alike [] (u ∷ us) e h = cc
 alike (t ∷ ts) [] e h = refl
 alike (t ∷ ts) (u ∷ us) e h =
     let same = cons_same t.holds u.holds (answers ts) (answers us) e in
-    let held = first_nowhere t ts h in
+    let held = first_ok t ts h in
     rw (sym same.0 ∙ held.0) (alike ts us same.1 held.1)
 
 -- ---- an entry's fields
@@ -76,7 +77,7 @@ module _ (b : Body) (A N Q : ℕ) (f : List ℕ) (first : ℕ) where
       → first_fault (entry_tests b A N Q f first at) ≡ Nowhere
   unfolding entry_tests first_fault
   entry_passes at fields ascent =
-      nowhere_append (field_tests b A N Q f at) (test (ascends (width b) f first at) at ∷ []) fields (rw ascent)
+      ok_append (field_tests b A N Q f at) (test (ascends (width b) f first at) at ∷ []) fields (rw ascent)
 
   pub body_passes : (at n : ℕ) → ((i : ℕ) → i < n → first_fault (entry_tests b A N Q f first (at + width b * i)) ≡ Nowhere)
       → first_fault (body_tests b A N Q f first at n) ≡ Nowhere
@@ -84,7 +85,7 @@ module _ (b : Body) (A N Q : ℕ) (f : List ℕ) (first : ℕ) where
   body_passes at zero each = refl
   body_passes at (suc n) each =
       let none : at + width b * 0 ≡ at = omega arith in
-      nowhere_append (entry_tests b A N Q f first at) (body_tests b A N Q f first (at + width b) n)
+      ok_append (entry_tests b A N Q f first at) (body_tests b A N Q f first (at + width b) n)
       (rw none at (each 0 (omega arith)))
       (body_passes (at + width b) n (λ i h.
       let p : at + width b * suc i ≡ at + width b + width b * i = omega arith in

@@ -18,7 +18,7 @@ use Rattle.entries.specs.declared.Body.TheVariants.{Endings}
 use Rattle.template.specs.Layout.{first_body, most_rules, most_schema_rules, name_count, nonterminals, states, template_rules, schema_rules}
 use Rattle.template.specs.Layout.{ending_states}
 use Rattle.template.specs.Order.{IsSound}
-use Rattle.entries.proofs.OrderLaws.{nowhere_holds}
+use Rattle.entries.proofs.OrderLaws.{ok_holds}
 use Rattle.template.proofs.SoundLaws.{sound_file}
 use Rattle.entries.proofs.EntryLaws.{entry, EntriesAscend}
 use Rattle.save.specs.Entries.{SameEntries}
@@ -156,5 +156,5 @@ endings_few A N Q (suc n) list holds =
     let last = holds.fields_pass (entry 1 list n) (entry_numbered 1 (suc n) list holds.whole (omega arith) n (omega arith)) in
     let is = state_entry (suc n) list whole holds.ascending n (omega arith) in
     let below : byte_at (entry 1 list n) 0 < Q =
-    ltb-true (byte_at (entry 1 list n) 0) Q (nowhere_holds (field_tests Endings A N Q (entry 1 list n) 0) last).0 in
+    ltb-true (byte_at (entry 1 list n) 0) Q (ok_holds (field_tests Endings A N Q (entry 1 list n) 0) last).0 in
     omega (arith, climbs (suc n) list whole holds.ascending n (omega arith), ap (λ (e : List ℕ). byte_at e 0) is)

@@ -6,8 +6,8 @@ use Prim.Native.Nat.{ℕ, ◌≤◌}
 use borrow.Author.Tests.{leb-true, eqb-true}
 use lib.ListN.{length}
 use Rattle.entries.specs.Tests.{Test, first_fault}
-use Rattle.entries.specs.declared.Fault.{Fault}
-use Rattle.entries.specs.declared.Fault.TheVariants.{Nowhere, At}
+use Rattle.std.specs.Prelude.{Result, Ok, Err}
+use Rattle.entries.specs.Tests.{Tested, fault_at}
 use Rattle.entries.specs.declared.Body.{Body}
 use Rattle.entries.specs.declared.Body.TheVariants.{Templates, Schema, Endings}
 use Rattle.entries.specs.declared.Sizes.{Sizes}
@@ -15,19 +15,19 @@ use Rattle.template.specs.Layout.{rule_count, schema_count, ending_count, schema
 use Rattle.template.specs.Order.{head_tests, contents_tests, body, tests, shape_of, reading_of}
 use Rattle.template.specs.declared.Shape.{Shape}
 use Rattle.template.specs.declared.Reading.TheVariants.{Sound, Bad}
-use Rattle.entries.proofs.OrderLaws.{nowhere_holds}
+use Rattle.entries.proofs.OrderLaws.{ok_holds}
 use Rattle.entries.proofs.BodyLaws.{entries_of}
 
 -- the length
 
 pub head_length : (f : List ℕ) → first_fault (head_tests f) ≡ Nowhere → 16 ≤ length f
 unfolding head_tests
-head_length f e = leb-true 16 (length f) (nowhere_holds (head_tests f) e).0
+head_length f e = leb-true 16 (length f) (ok_holds (head_tests f) e).0
 
 pub contents_length : (symbols : ℕ) (f : List ℕ) → first_fault (contents_tests symbols f) ≡ Nowhere → length f ≡ bodies_end_of symbols f
 unfolding contents_tests
 contents_length symbols f e =
-    eqb-true (length f) (bodies_end_of symbols f) (nowhere_holds (contents_tests symbols f) e).1.1.1.1.1.1.0
+    eqb-true (length f) (bodies_end_of symbols f) (ok_holds (contents_tests symbols f) e).1.1.1.1.1.1.0
 
 -- the bodies, by the file's own numbers
 
@@ -45,7 +45,7 @@ module _ (symbols : ℕ) where
 abbrev pub sizes_of : Shape → Sizes
 sizes_of s = record { names = s.names; nonterminals = s.nonterminals; states = s.states }
 
-pub body_of : (b : Body) (f : List ℕ) {s : Shape} {first place n count : ℕ} {e : Fault}
+pub body_of : (b : Body) (f : List ℕ) {s : Shape} {first place n count : ℕ} {e : Tested}
     → e ≡ first_fault (entries_of b (sizes_of s) f first first n)
     → s ≡ shape_of f → first ≡ place → n ≡ count → e ≡ first_fault (body b f place count)
 body_of b f made shape start size = rw (← size, ← start) (rw shape at made)

@@ -11,8 +11,8 @@ use lib.ListN.{length}
 use borrow.Author.Tests.{leb-true, eqb-true, le-leb, eq-eqb}
 use Rattle.entries.specs.Tests.{first_fault}
 use Rattle.entries.specs.Entries.{byte_at, rule_symbols, rule_width}
-use Rattle.entries.specs.declared.Fault.{Fault}
-use Rattle.entries.specs.declared.Fault.TheVariants.{Nowhere, At}
+use Rattle.std.specs.Prelude.{Result, Ok, Err}
+use Rattle.entries.specs.Tests.{Tested, fault_at}
 use Rattle.entries.specs.declared.Body.TheVariants.{Templates, Schema, Endings}
 use Rattle.template.specs.Layout.{half_at, name_count, nonterminals, states, rule_count, schema_count, ending_count, most_rules}
 use Rattle.template.specs.Layout.{longest_file_of, schema_start_of, ending_start_of, bodies_end_of}
@@ -20,12 +20,12 @@ use Rattle.template.specs.Order.{between, head_tests, contents_tests, body, bodi
 use Rattle.template.specs.Order.{reading_of, reading}
 use Rattle.template.specs.declared.Reading.TheVariants.{Sound}
 use Rattle.template.specs.declared.Shape.{Shape}
-use Rattle.entries.proofs.OrderLaws.{nowhere_holds, first_append_nowhere, nowhere_append}
+use Rattle.entries.proofs.OrderLaws.{ok_holds, first_append_ok, ok_append}
 use Rattle.numbers.proofs.TestLaws.{and_out}
 
 -- what reading answers
 
-verdict_sound : (x : Fault) (z s : Shape) → verdict x z ≡ Sound s → (x ≡ Nowhere) × (s ≡ z)
+verdict_sound : (x : Tested) (z s : Shape) → verdict x z ≡ Sound s → (x ≡ Nowhere) × (s ≡ z)
 verdict_sound Nowhere z s e = (refl, cc)
 verdict_sound (At p) z s e = (cc, cc)
 
@@ -77,12 +77,12 @@ sound_file_of symbols f e =
     let rules = body (Templates symbols) f 16 (rule_count f) in
     let schema-rules = body Schema f (schema_start_of symbols f) (schema_count f) in
     let endings = body Endings f (ending_start_of symbols f) (ending_count f) in
-    let t = first_append_nowhere (head_tests f) (contents_tests symbols f ++ bodies symbols f) e in
-    let u = first_append_nowhere (contents_tests symbols f) (bodies symbols f) t.1 in
-    let v = first_append_nowhere rules (schema-rules ++ endings) u.1 in
-    let w = first_append_nowhere schema-rules endings v.1 in
-    let h = nowhere_holds (head_tests f) t.0 in
-    let k = nowhere_holds (contents_tests symbols f) u.0 in
+    let t = first_append_ok (head_tests f) (contents_tests symbols f ++ bodies symbols f) e in
+    let u = first_append_ok (contents_tests symbols f) (bodies symbols f) t.1 in
+    let v = first_append_ok rules (schema-rules ++ endings) u.1 in
+    let w = first_append_ok schema-rules endings v.1 in
+    let h = ok_holds (head_tests f) t.0 in
+    let k = ok_holds (contents_tests symbols f) u.0 in
     let a = between_true 1 (name_count f) 32 h.1.0 in
     let n = between_true 1 (nonterminals f) 64 h.1.1.0 in
     let q = between_true 1 (states f) 8 h.1.1.1.0 in
@@ -128,10 +128,10 @@ file_sound {symbols = symbols} f s =
     let rules = body (Templates symbols) f 16 (rule_count f) in
     let schema-rules = body Schema f (schema_start_of symbols f) (schema_count f) in
     let endings = body Endings f (ending_start_of symbols f) (ending_count f) in
-    nowhere_append (head_tests f) (contents_tests symbols f ++ bodies symbols f) head
-    (nowhere_append (contents_tests symbols f) (bodies symbols f) contents
-    (nowhere_append rules (schema-rules ++ endings) s.rules_pass
-    (nowhere_append schema-rules endings s.schema_rules_pass s.endings_pass)))
+    ok_append (head_tests f) (contents_tests symbols f ++ bodies symbols f) head
+    (ok_append (contents_tests symbols f) (bodies symbols f) contents
+    (ok_append rules (schema-rules ++ endings) s.rules_pass
+    (ok_append schema-rules endings s.schema_rules_pass s.endings_pass)))
 
 -- the longest sound file
 pub sound_length_of : {symbols : ℕ} (f : List ℕ) → SoundFileOf symbols f → length f ≤ longest_file_of symbols

@@ -5,8 +5,8 @@ use Rattle.words.specs.Tags.{most_names}
 use Rattle.hedge.specs.Schema.{most_states}
 use Rattle.entries.specs.Tests.{Test, test, first_fault}
 use Rattle.entries.specs.Entries.{byte_at, rule_symbols, body_tests}
-use Rattle.entries.specs.declared.Fault.{Fault}
-use Rattle.entries.specs.declared.Fault.TheVariants.{Nowhere, At}
+use Rattle.std.specs.Prelude.{Result, Ok, Err}
+use Rattle.entries.specs.Tests.{Tested, fault_at}
 use Rattle.entries.specs.declared.Body.{Body}
 use Rattle.entries.specs.declared.Body.TheVariants.{Templates, Schema, Endings}
 use Rattle.template.specs.Layout.{most_nonterminals, most_rules, most_schema_rules, half_at, name_count, nonterminals, states, rule_count}
@@ -72,7 +72,7 @@ shape_of f =
     }
 
 -- sound with its numbers where every test holds, else bad with the place of the first that fails
-abbrev pub verdict : Fault → Shape → Reading
+abbrev pub verdict : Tested → Shape → Reading
 verdict Nowhere s = Sound s
 verdict (At p) s = Bad p
 

@@ -9,13 +9,13 @@ returns-then-byte-names c = byte_start _ _ _ c.if-byte-names.true
 pub returns-then-b-lt32 : goal.returns-then-b-lt32
 returns-then-b-lt32 c = byte_below_ends c.args.names c.args.nonterminals c.args.byte (omega arith) (omega arith)
 
-pub returns-then-b-wide : goal.returns-then-b-wide
-returns-then-b-wide c = byte_end c.args.names c.args.nonterminals c.args.byte (omega arith) (omega arith) (omega arith)
+pub returns-then-b-from : goal.returns-then-b-from
+returns-then-b-from c = byte_end c.args.names c.args.nonterminals c.args.byte (omega arith) (omega arith) (omega arith)
 
 pub returns-then-b-lt64 : goal.returns-then-b-lt64
 returns-then-b-lt64 c = byte_below_nonterminals c.args.names c.args.nonterminals c.args.byte (omega arith) (omega arith)
 
 pub returns : goal.returns
 returns c =
-    rw (c.wide-b.ensures.0, c.wide-2.ensures.0)
+    rw (c.from-b.ensures, c.from-2.ensures)
     (byte_nonterminal c.args.names c.args.nonterminals c.args.byte (omega arith) (omega arith))

@@ -1,38 +1,18 @@
--- The whole comparison is the comparison from place i on: equal bytes go one further, the first that differ decide, and a list
--- that ends before them precedes nothing. Assumes nothing.
-use mathlib.Core.Path.{◌∙◌, sym}
-use native.Mathlib.Omega.{arith}
-use Rattle.entries.proofs.AscentLaws.{precedes_past_left, precedes_past_right, precedes_less, precedes_more, precedes_same}
+-- What is left of both lists decides as the whole lists do: equal bytes go one further, the first that differ decide, and a list at its end precedes
+-- nothing. Assumes nothing.
+use Rattle.std.proofs.Common.{◌∙◌, sym, inl, inr}
+use Rattle.entries.proofs.AscentLaws.{precedes_past_left, precedes_past_right, precedes_same, precedes_differs}
 use Rattle.entries.proofs.precedes.Goals as goal
 
-pub returns-then-right-i : goal.returns-then-right-i
-returns-then-right-i c =
-    let a = c.args.left.now in
-    let b = c.args.right.now in
-    precedes_past_right a b c.loop-i.i c.if-right-i.true ∙ sym c.loop-i.invariant.1
+pub returns-then-x-y : goal.returns-then-x-y
+returns-then-x-y c = precedes_differs c.in-Some.ensures.steps c.if-x-y.true ∙ sym c.loop-x.invariant
 
-pub returns-then-left-i : goal.returns-then-left-i
-returns-then-left-i c =
-    let a = c.args.left.now in
-    let b = c.args.right.now in
-    precedes_less a b c.loop-i.i (omega arith) (omega arith) c.if-left-i.true ∙ sym c.loop-i.invariant.1
-
-pub returns-then-right-i-2 : goal.returns-then-right-i-2
-returns-then-right-i-2 c =
-    let a = c.args.left.now in
-    let b = c.args.right.now in
-    precedes_more a b c.loop-i.i (omega arith) (omega arith) c.if-right-i-2.true ∙ sym c.loop-i.invariant.1
-
-pub loop-i-preserved : goal.loop-i-preserved
-loop-i-preserved c =
-    let a = c.args.left.now in
-    let b = c.args.right.now in
-    let same =
-    precedes_same a b c.loop-i.i (omega arith) (omega arith) c.if-left-i.false c.if-right-i-2.false in
-    (omega arith, c.loop-i.invariant.1 ∙ same)
+pub loop-x-preserved : goal.loop-x-preserved
+loop-x-preserved c = c.loop-x.invariant ∙ precedes_same c.in-Some.ensures.steps c.if-x-y.false
 
 pub returns : goal.returns
 returns c =
-    let a = c.args.left.now in
-    let b = c.args.right.now in
-    precedes_past_left a b c.loop-i.i (omega arith) ∙ sym c.loop-i.invariant.1
+    elim c.in-None.ensures.steps [
+      | inl l ↦ precedes_past_left _ _ l.1.0 ∙ sym c.loop-x.invariant
+      | inr r ↦ precedes_past_right _ _ r.1.0 ∙ sym c.loop-x.invariant
+    ]

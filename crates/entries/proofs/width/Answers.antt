@@ -4,7 +4,7 @@ use Rattle.entries.proofs.width.Goals as goal
 
 pub returns-in-Templates : goal.returns-in-Templates
 unfolding width
-returns-in-Templates c = rw (c.in-Templates.is, c.wide.ensures.0)
+returns-in-Templates c = rw (c.in-Templates.is, c.from.ensures)
 
 pub returns-in-Schema : goal.returns-in-Schema
 unfolding width

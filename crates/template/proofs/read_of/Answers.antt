@@ -5,8 +5,8 @@ use mathlib.Core.Path.{◌≡◌, ◌∙◌, sym}
 use Prim.Native.Nat.{ℕ}
 use native.Mathlib.Omega.{arith}
 use Rattle.entries.specs.Tests.{Test, first_fault}
-use Rattle.entries.specs.declared.Fault.{Fault}
-use Rattle.entries.specs.declared.Fault.TheVariants.{Nowhere}
+use Rattle.std.specs.Prelude.{Result, Ok, Err}
+use Rattle.entries.specs.Tests.{Tested, fault_at}
 use Rattle.template.specs.Order.{bodies, head_tests, contents_tests, tests}
 use Rattle.template.proofs.FileLaws.{head_length, contents_length, answers_bad, answers_sound}
 use Rattle.entries.proofs.OrderLaws.{first_stays, first_passes}
@@ -14,11 +14,11 @@ use Rattle.template.proofs.read_of.Goals as goal
 
 -- a list behind the head's, and one behind head and contents
 
-after_head : (file : List ℕ) {f g : Fault} (ts : List Test) → f ≡ first_fault (head_tests file) → f ≡ Nowhere → g ≡ first_fault ts
+after_head : (file : List ℕ) {f g : Tested} (ts : List Test) → f ≡ first_fault (head_tests file) → f ≡ Nowhere → g ≡ first_fault ts
     → g ≡ first_fault (head_tests file ++ ts)
 after_head file ts = λ head passed rest. first_passes (head_tests file) ts head passed rest
 
-after_contents : (symbols : ℕ) (file : List ℕ) {f g h : Fault} → f ≡ first_fault (head_tests file) → f ≡ Nowhere
+after_contents : (symbols : ℕ) (file : List ℕ) {f g h : Tested} → f ≡ first_fault (head_tests file) → f ≡ Nowhere
     → g ≡ first_fault (contents_tests symbols file) → g ≡ Nowhere → h ≡ first_fault (bodies symbols file)
     → h ≡ first_fault (tests symbols file)
 unfolding tests

@@ -2,15 +2,15 @@
 -- Assumes nothing.
 use native.Mathlib.Omega.{arith}
 use Rattle.entries.specs.Entries.{width, field_tests}
-use Rattle.entries.proofs.field_fault.Goals as goal
+use Rattle.entries.proofs.test_fields.Goals as goal
 
-pub rule_fault-requires : goal.rule_fault-requires
+pub test_rule-requires : goal.test_rule-requires
 unfolding width
-rule_fault-requires c = rw c.in-Templates.is at c.requires
+test_rule-requires c = rw c.in-Templates.is at c.requires
 
-pub schema_fault-requires : goal.schema_fault-requires
+pub test_schema_rule-requires : goal.test_schema_rule-requires
 unfolding width
-schema_fault-requires c = rw c.in-Schema.is at c.requires
+test_schema_rule-requires c = rw c.in-Schema.is at c.requires
 
 pub bounds-file-at : goal.bounds-file-at
 unfolding width
@@ -19,11 +19,11 @@ bounds-file-at c =
     omega (arith, room)
 
 pub returns-in-Templates : goal.returns-in-Templates
-returns-in-Templates c = rw c.in-Templates.is c.rule_fault.ensures
+returns-in-Templates c = rw c.in-Templates.is c.test_rule.ensures
 
 pub returns-in-Schema : goal.returns-in-Schema
-returns-in-Schema c = rw c.in-Schema.is c.schema_fault.ensures
+returns-in-Schema c = rw c.in-Schema.is c.test_schema_rule.ensures
 
 pub returns-in-Endings : goal.returns-in-Endings
 unfolding field_tests
-returns-in-Endings c = rw c.in-Endings.is c.then_test.ensures
+returns-in-Endings c = rw c.in-Endings.is c.test.ensures
