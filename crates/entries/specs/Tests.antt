@@ -1,12 +1,9 @@
 -- A list of tests, each with the place that is given where it fails: the first test that fails decides.
 use Rattle.std.specs.Prelude.{Bool, true, false, List, [], ◌∷◌, ℕ, Result, Ok, Err}
 use Rattle.entries.specs.declared.Fault.{Fault}
+pub use Rattle.entries.specs.declared.Test.{Test}
 
 -- what must hold, and the place that is given where it does not
-pub record Test : Type 0 where
-  pub holds : Bool
-  pub place : ℕ
-
 abbrev pub test : Bool → ℕ → Test
 test b p = record { holds = b; place = p }
 

@@ -28,11 +28,28 @@ pub struct Sizes {
     pub states: u8,
 }
 
-// One test of the order of reading: what must hold, and the place that is given where it does not.
-pub fn test(holds: bool, place: usize) -> Result<(), Fault>
+// What must hold, and the place that is given where it does not.
+#[derive(Clone, Copy, Debug, PartialEq, Eq)]
+pub struct Test {
+    pub holds: bool,
+    pub place: usize,
+}
+
+// One test of the order of reading.
+fn ask(holds: bool, place: usize) -> Result<(), Fault>
     ensures { result ≡ first_fault (test holds place ∷ []) }
 {
     if holds { Ok(()) } else { Err(Fault { place }) }
+}
+
+// Tests in their order: the first that fails decides.
+pub fn first_fault(tests: &[Test]) -> Result<(), Fault>
+    ensures { result ≡ first_fault tests.now }
+{
+    for t in tests {
+        ask(t.holds, t.place)?;
+    }
+    Ok(())
 }
 
 // Is the byte a tag or a nonterminal of a file with that many names and nonterminals? The ranges are asked from the lowest on.
@@ -75,7 +92,7 @@ fn test_symbols(file: &[u8], s: Sizes, symbols: u8, at: usize) -> Result<(), Fau
     for j in 0..usize::from(symbols) {
         let place = at + 2 + j;
         let holds = symbol_holds(j < used, s.names, s.nonterminals, file[place]);
-        test(holds, place)?;
+        ask(holds, place)?;
     }
     Ok(())
 }
@@ -85,8 +102,8 @@ fn test_rule(file: &[u8], s: Sizes, symbols: u8, at: usize) -> Result<(), Fault>
     requires { at + rule_width symbols ≤ length file.now }
     ensures { result ≡ first_fault (field_tests (Body.Templates symbols) s.names s.nonterminals s.states file.now at) }
 {
-    test(file[at] < s.nonterminals, at)?;
-    test(file[at + 1] <= symbols, at + 1)?;
+    ask(file[at] < s.nonterminals, at)?;
+    ask(file[at + 1] <= symbols, at + 1)?;
     test_symbols(file, s, symbols, at)
 }
 
@@ -95,10 +112,10 @@ fn test_schema_rule(file: &[u8], s: Sizes, at: usize) -> Result<(), Fault>
     requires { at + 4 ≤ length file.now }
     ensures { result ≡ first_fault (field_tests Body.Schema s.names s.nonterminals s.states file.now at) }
 {
-    test(file[at] < s.states, at)?;
-    test(file[at + 1] < s.names, at + 1)?;
-    test(file[at + 2] < s.states, at + 2)?;
-    test(file[at + 3] < s.states, at + 3)
+    ask(file[at] < s.states, at)?;
+    ask(file[at + 1] < s.names, at + 1)?;
+    ask(file[at + 2] < s.states, at + 2)?;
+    ask(file[at + 3] < s.states, at + 3)
 }
 
 // How many bytes an entry has.
@@ -120,7 +137,7 @@ fn test_fields(file: &[u8], s: Sizes, body: Body, at: usize) -> Result<(), Fault
     match body {
         Body::Templates(symbols) => test_rule(file, s, symbols, at),
         Body::Schema => test_schema_rule(file, s, at),
-        Body::Endings => test(file[at] < s.states, at),
+        Body::Endings => ask(file[at] < s.states, at),
     }
 }
 
@@ -155,7 +172,7 @@ fn test_entry(file: &[u8], s: Sizes, body: Body, first: usize, at: usize) -> Res
     ensures { result ≡ first_fault (entry_tests body s.names s.nonterminals s.states file.now first at) }
 {
     test_fields(file, s, body, at)?;
-    test(ascends(file, width(body), first, at), at)
+    ask(ascends(file, width(body), first, at), at)
 }
 
 // The entries of a body in turn: the first fault decides.

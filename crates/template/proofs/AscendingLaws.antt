@@ -8,8 +8,7 @@ use native.Mathlib.Omega.{arith}
 use lib.ListN.{length}
 use Rattle.entries.specs.Tests.{first_fault}
 use Rattle.entries.specs.Entries.{rule_width, width}
-use Rattle.std.specs.Prelude.{Result, Ok, Err}
-use Rattle.entries.specs.Tests.{Tested, fault_at}
+use Rattle.std.specs.Prelude.{Ok}
 use Rattle.entries.specs.declared.Body.{Body}
 use Rattle.entries.specs.declared.Body.TheVariants.{Templates, Schema, Endings}
 use Rattle.template.specs.Layout.{name_count, nonterminals, states, rule_count, schema_count, ending_count, schema_start_of, ending_start_of}
@@ -20,7 +19,7 @@ use Rattle.template.proofs.SoundLaws.{SoundFileOf}
 use Rattle.template.proofs.ListLaws.{part_entry, rules_fit, schema_rules_fit}
 
 -- the entries of a body of the file
-module _ (b : Body) (f : List ℕ) (first n : ℕ) (e : first_fault (body b f first n) ≡ Nowhere) where
+module _ (b : Body) (f : List ℕ) (first n : ℕ) (e : first_fault (body b f first n) ≡ Ok tt) where
   pub body_ascending : first + width b * n ≤ length f → EntriesAscend (width b) n (part_of f first (width b * n))
   body_ascending h i k =
       let this : width b * suc i ≤ width b * n = mul-le-mul_left (width b) (omega arith) in

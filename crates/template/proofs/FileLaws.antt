@@ -6,25 +6,25 @@ use Prim.Native.Nat.{ℕ, ◌≤◌}
 use borrow.Author.Tests.{leb-true, eqb-true}
 use lib.ListN.{length}
 use Rattle.entries.specs.Tests.{Test, first_fault}
-use Rattle.std.specs.Prelude.{Result, Ok, Err}
-use Rattle.entries.specs.Tests.{Tested, fault_at}
+use Rattle.std.specs.Prelude.{Ok, Err}
+use Rattle.entries.specs.Tests.{Tested}
+use Rattle.entries.specs.declared.Fault.{Fault}
 use Rattle.entries.specs.declared.Body.{Body}
 use Rattle.entries.specs.declared.Body.TheVariants.{Templates, Schema, Endings}
 use Rattle.entries.specs.declared.Sizes.{Sizes}
 use Rattle.template.specs.Layout.{rule_count, schema_count, ending_count, schema_start_of, ending_start_of, bodies_end_of}
 use Rattle.template.specs.Order.{head_tests, contents_tests, body, tests, shape_of, reading_of}
 use Rattle.template.specs.declared.Shape.{Shape}
-use Rattle.template.specs.declared.Reading.TheVariants.{Sound, Bad}
 use Rattle.entries.proofs.OrderLaws.{ok_holds}
 use Rattle.entries.proofs.BodyLaws.{entries_of}
 
 -- the length
 
-pub head_length : (f : List ℕ) → first_fault (head_tests f) ≡ Nowhere → 16 ≤ length f
+pub head_length : (f : List ℕ) → first_fault (head_tests f) ≡ Ok tt → 16 ≤ length f
 unfolding head_tests
 head_length f e = leb-true 16 (length f) (ok_holds (head_tests f) e).0
 
-pub contents_length : (symbols : ℕ) (f : List ℕ) → first_fault (contents_tests symbols f) ≡ Nowhere → length f ≡ bodies_end_of symbols f
+pub contents_length : (symbols : ℕ) (f : List ℕ) → first_fault (contents_tests symbols f) ≡ Ok tt → length f ≡ bodies_end_of symbols f
 unfolding contents_tests
 contents_length symbols f e =
     eqb-true (length f) (bodies_end_of symbols f) (ok_holds (contents_tests symbols f) e).1.1.1.1.1.1.0
@@ -52,11 +52,11 @@ body_of b f made shape start size = rw (← size, ← start) (rw shape at made)
 
 -- the verdict
 
-pub answers_bad : (symbols : ℕ) (f : List ℕ) {p : ℕ} → At p ≡ first_fault (tests symbols f) → Bad p ≡ reading_of symbols f
+pub answers_bad : (symbols : ℕ) (f : List ℕ) {x : Fault} → Err x ≡ first_fault (tests symbols f) → Err x ≡ reading_of symbols f
 unfolding reading_of
 answers_bad symbols f fault = rw (← fault)
 
-pub answers_sound : (symbols : ℕ) (f : List ℕ) {s : Shape} → s ≡ shape_of f → Nowhere ≡ first_fault (tests symbols f)
-    → Sound s ≡ reading_of symbols f
+pub answers_sound : (symbols : ℕ) (f : List ℕ) {s : Shape} → s ≡ shape_of f → Ok tt ≡ first_fault (tests symbols f)
+    → Ok s ≡ reading_of symbols f
 unfolding reading_of
 answers_sound symbols f shape none = rw (← none, shape)

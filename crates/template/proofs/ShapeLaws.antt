@@ -8,17 +8,17 @@ use Rattle.hedge.specs.Schema.{most_states, RulesBelow, EndsBelow}
 use Rattle.entries.specs.Entries.{rule_symbols, rule_width}
 use Rattle.template.specs.Layout.{name_count, states, part_of, schema_rules, ending_states, schema_rules_of, ending_states_of}
 use Rattle.template.specs.Order.{SoundOf, IsSound, shape_of, reading_of, reading, number}
-use Rattle.template.specs.declared.Reading.{Reading}
-use Rattle.template.specs.declared.Reading.TheVariants.{Sound, Bad}
+use Rattle.std.specs.Prelude.{Ok, Err}
+use Rattle.template.specs.Order.{Reading, faulty}
 use Rattle.template.specs.declared.Shape.{Shape}
 use Rattle.template.proofs.SoundLaws.{SoundFile, reading_sound, sound_reading_of, sound_file}
 use Rattle.template.proofs.GrammarLaws.{schema_rules_below, endings_below}
 
 -- a file is sound or bad
-pub sound_not_bad_of : (symbols : ℕ) (f : List ℕ) (p : ℕ) → SoundOf symbols f → reading_of symbols f ≡ Bad p → ⊥
+pub sound_not_bad_of : (symbols : ℕ) (f : List ℕ) (p : ℕ) → SoundOf symbols f → reading_of symbols f ≡ faulty p → ⊥
 sound_not_bad_of symbols f p s e = let z : ◌≡◌ {A = ℕ} 0 1 = cc (sym (sound_reading_of symbols f s) ∙ e) in omega arith
 
-pub sound_not_bad : (f : List ℕ) (p : ℕ) → IsSound f → reading f ≡ Bad p → ⊥
+pub sound_not_bad : (f : List ℕ) (p : ℕ) → IsSound f → reading f ≡ faulty p → ⊥
 sound_not_bad = sound_not_bad_of rule_symbols
 
 -- the parts behind the template rules, by a shape that is the file's
@@ -40,11 +40,11 @@ pub read_is : (f : List ℕ) (r a : Reading) → r ≡ reading f → r ≡ a →
 read_is f r a e p = sym e ∙ p
 
 -- the place that is taken out of a bad reading is that of the file's first fault
-pub bad_at : (f : List ℕ) (r : Reading) (p q : ℕ) → r ≡ reading f → r ≡ Bad p → q ≡ number r → reading f ≡ Bad q
+pub bad_at : (f : List ℕ) (r : Reading) (p q : ℕ) → r ≡ reading f → r ≡ faulty p → q ≡ number r → reading f ≡ faulty q
 bad_at f r p q e told place =
-    sym e ∙ told ∙ ap (λ (n : ℕ). Bad n) (sym (place ∙ ap (λ (r : Reading). number r) told))
+    sym e ∙ told ∙ ap (λ (n : ℕ). faulty n) (sym (place ∙ ap (λ (r : Reading). number r) told))
 
-module _ (f : List ℕ) (shape : Shape) (sound : reading f ≡ Sound shape) where
+module _ (f : List ℕ) (shape : Shape) (sound : reading f ≡ Ok shape) where
   pub shape_sound : IsSound f
   shape_sound = (reading_sound f shape sound).0
 

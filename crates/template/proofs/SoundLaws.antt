@@ -11,36 +11,35 @@ use lib.ListN.{length}
 use borrow.Author.Tests.{leb-true, eqb-true, le-leb, eq-eqb}
 use Rattle.entries.specs.Tests.{first_fault}
 use Rattle.entries.specs.Entries.{byte_at, rule_symbols, rule_width}
-use Rattle.std.specs.Prelude.{Result, Ok, Err}
-use Rattle.entries.specs.Tests.{Tested, fault_at}
+use Rattle.std.specs.Prelude.{Ok, Err}
+use Rattle.entries.specs.Tests.{Tested}
 use Rattle.entries.specs.declared.Body.TheVariants.{Templates, Schema, Endings}
 use Rattle.template.specs.Layout.{half_at, name_count, nonterminals, states, rule_count, schema_count, ending_count, most_rules}
 use Rattle.template.specs.Layout.{longest_file_of, schema_start_of, ending_start_of, bodies_end_of}
 use Rattle.template.specs.Order.{between, head_tests, contents_tests, body, bodies, tests, SoundOf, IsSound, shape_of, verdict}
 use Rattle.template.specs.Order.{reading_of, reading}
-use Rattle.template.specs.declared.Reading.TheVariants.{Sound}
 use Rattle.template.specs.declared.Shape.{Shape}
 use Rattle.entries.proofs.OrderLaws.{ok_holds, first_append_ok, ok_append}
 use Rattle.numbers.proofs.TestLaws.{and_out}
 
 -- what reading answers
 
-verdict_sound : (x : Tested) (z s : Shape) → verdict x z ≡ Sound s → (x ≡ Nowhere) × (s ≡ z)
-verdict_sound Nowhere z s e = (refl, cc)
-verdict_sound (At p) z s e = (cc, cc)
+verdict_sound : (x : Tested) (z s : Shape) → verdict x z ≡ Ok s → (x ≡ Ok tt) × (s ≡ z)
+verdict_sound (Ok u) z s e = (refl, cc)
+verdict_sound (Err x) z s e = (cc, cc)
 
-pub reading_sound_of : (symbols : ℕ) (f : List ℕ) (s : Shape) → reading_of symbols f ≡ Sound s → SoundOf symbols f × (s ≡ shape_of f)
+pub reading_sound_of : (symbols : ℕ) (f : List ℕ) (s : Shape) → reading_of symbols f ≡ Ok s → SoundOf symbols f × (s ≡ shape_of f)
 unfolding reading_of
 reading_sound_of symbols f s e = verdict_sound (first_fault (tests symbols f)) (shape_of f) s e
 
-pub sound_reading_of : (symbols : ℕ) (f : List ℕ) → SoundOf symbols f → reading_of symbols f ≡ Sound (shape_of f)
+pub sound_reading_of : (symbols : ℕ) (f : List ℕ) → SoundOf symbols f → reading_of symbols f ≡ Ok (shape_of f)
 unfolding reading_of
 sound_reading_of symbols f e = rw e
 
-pub reading_sound : (f : List ℕ) (s : Shape) → reading f ≡ Sound s → IsSound f × (s ≡ shape_of f)
+pub reading_sound : (f : List ℕ) (s : Shape) → reading f ≡ Ok s → IsSound f × (s ≡ shape_of f)
 reading_sound = reading_sound_of rule_symbols
 
-pub sound_reading : (f : List ℕ) → IsSound f → reading f ≡ Sound (shape_of f)
+pub sound_reading : (f : List ℕ) → IsSound f → reading f ≡ Ok (shape_of f)
 sound_reading = sound_reading_of rule_symbols
 
 -- what holds of a sound file: its numbers, its length, and the tests of its three bodies
@@ -59,9 +58,9 @@ pub record SoundFileOf (symbols : ℕ) (f : List ℕ) : Type 0 where
   pub endings_offset : half_at f 12 ≡ ending_start_of symbols f
   pub few_endings : ending_count f ≤ states f
   pub whole_length : length f ≡ bodies_end_of symbols f
-  pub rules_pass : first_fault (body (Templates symbols) f 16 (rule_count f)) ≡ Nowhere
-  pub schema_rules_pass : first_fault (body Schema f (schema_start_of symbols f) (schema_count f)) ≡ Nowhere
-  pub endings_pass : first_fault (body Endings f (ending_start_of symbols f) (ending_count f)) ≡ Nowhere
+  pub rules_pass : first_fault (body (Templates symbols) f 16 (rule_count f)) ≡ Ok tt
+  pub schema_rules_pass : first_fault (body Schema f (schema_start_of symbols f) (schema_count f)) ≡ Ok tt
+  pub endings_pass : first_fault (body Endings f (ending_start_of symbols f) (ending_count f)) ≡ Ok tt
 
 abbrev pub SoundFile : List ℕ → Type 0
 SoundFile = SoundFileOf rule_symbols
@@ -116,11 +115,11 @@ true_between low x high h k = rw (le-leb low x h, le-leb x high k)
 pub file_sound : {symbols : ℕ} (f : List ℕ) → SoundFileOf symbols f → SoundOf symbols f
 unfolding tests head_tests contents_tests bodies first_fault
 file_sound {symbols = symbols} f s =
-    let head : first_fault (head_tests f) ≡ Nowhere =
+    let head : first_fault (head_tests f) ≡ Ok tt =
     rw (le-leb 16 (length f) (omega arith), true_between 1 (name_count f) 32 s.some_name s.few_names)
     (rw (true_between 1 (nonterminals f) 64 s.some_nonterminal s.few_nonterminals)
     (rw (true_between 1 (states f) 8 s.some_state s.few_states, eq-eqb (byte_at f 3) 0 s.spare_zero))) in
-    let contents : first_fault (contents_tests symbols f) ≡ Nowhere =
+    let contents : first_fault (contents_tests symbols f) ≡ Ok tt =
     rw (eq-eqb (half_at f 4) 16 s.rules_offset, le-leb (rule_count f) 256 s.few_rules)
     (rw (eq-eqb (half_at f 8) (schema_start_of symbols f) s.schema_rules_offset, le-leb (schema_count f) 128 s.few_schema_rules)
     (rw (eq-eqb (half_at f 12) (ending_start_of symbols f) s.endings_offset, le-leb (ending_count f) (states f) s.few_endings)

@@ -1,18 +1,15 @@
 -- The order of reading (Rules, section 4), as a list of tests, each with the place that is given where it fails: the head, the contents with
 -- each offset before its count, the file's length, then the bodies, entry by entry. The first test that fails decides.
-use Rattle.std.specs.Prelude.{◌≡◌, Bool, ◌&&◌, List, [], ◌∷◌, ◌++◌, ℕ, leb, eqb, length}
+use Rattle.std.specs.Prelude.{◌≡◌, Bool, ◌&&◌, List, [], ◌∷◌, ◌++◌, ℕ, leb, eqb, length, Result, Ok, Err}
 use Rattle.words.specs.Tags.{most_names}
 use Rattle.hedge.specs.Schema.{most_states}
-use Rattle.entries.specs.Tests.{Test, test, first_fault}
+use Rattle.entries.specs.Tests.{Test, test, Tested, first_fault}
 use Rattle.entries.specs.Entries.{byte_at, rule_symbols, body_tests}
-use Rattle.std.specs.Prelude.{Result, Ok, Err}
-use Rattle.entries.specs.Tests.{Tested, fault_at}
+use Rattle.entries.specs.declared.Fault.{Fault}
 use Rattle.entries.specs.declared.Body.{Body}
 use Rattle.entries.specs.declared.Body.TheVariants.{Templates, Schema, Endings}
 use Rattle.template.specs.Layout.{most_nonterminals, most_rules, most_schema_rules, half_at, name_count, nonterminals, states, rule_count}
 use Rattle.template.specs.Layout.{schema_count, ending_count, schema_start_of, ending_start_of, bodies_end_of}
-use Rattle.template.specs.declared.Reading.{Reading}
-use Rattle.template.specs.declared.Reading.TheVariants.{Sound, Bad}
 use Rattle.template.specs.declared.Shape.{Shape}
 
 abbrev pub between : ℕ → ℕ → ℕ → Bool
@@ -54,7 +51,7 @@ tests symbols f = head_tests f ++ (contents_tests symbols f ++ bodies symbols f)
 
 -- sound: every test holds
 abbrev pub SoundOf : ℕ → List ℕ → Type 0
-SoundOf symbols f = first_fault (tests symbols f) ≡ Nowhere
+SoundOf symbols f = first_fault (tests symbols f) ≡ Ok tt
 
 abbrev pub IsSound : List ℕ → Type 0
 IsSound = SoundOf rule_symbols
@@ -71,10 +68,16 @@ shape_of f =
       endings = ending_count f;
     }
 
--- sound with its numbers where every test holds, else bad with the place of the first that fails
+-- its numbers where every test holds, else the place of the first that fails
+abbrev pub Reading : Type 0
+Reading = Result Shape Fault
+
+abbrev pub faulty : ℕ → Reading
+faulty p = Err (record { place = p })
+
 abbrev pub verdict : Tested → Shape → Reading
-verdict Nowhere s = Sound s
-verdict (At p) s = Bad p
+verdict (Ok u) s = Ok s
+verdict (Err f) s = Err f
 
 unfoldable pub reading_of : ℕ → List ℕ → Reading
 reading_of symbols f = verdict (first_fault (tests symbols f)) (shape_of f)
@@ -84,9 +87,9 @@ reading = reading_of rule_symbols
 
 -- the reading in numbers: a bad file is 7 with the place (Rules, section 9)
 abbrev pub answer : Reading → ℕ
-answer (Sound s) = 0
-answer (Bad p) = 7
+answer (Ok s) = 0
+answer (Err f) = 7
 
 abbrev pub number : Reading → ℕ
-number (Sound s) = 0
-number (Bad p) = p
+number (Ok s) = 0
+number (Err f) = f.place

@@ -3,10 +3,12 @@
 
 ghost use Rattle.std.specs.Prelude.{◌≡◌, ◌+◌, ◌*◌, ◌≤◌, ◌<◌, length};
 ghost use Rattle.entries.specs.Tests.{first_fault};
-ghost use Rattle.entries.specs.Entries.{most_symbols, rule_width};
+ghost use Rattle.entries.specs.Entries.{rule_width};
 ghost use Rattle.template.specs.Layout.{first_body, half_at, bodies_end_of, part_of};
 ghost use Rattle.template.specs.Order.{between, head_tests, contents_tests, bodies};
 ghost use Rattle.template.specs.Order.{shape_of, reading_of, reading, answer, number};
+
+use entries::{Body, Fault, Sizes, test, test_body};
 
 // Where the first body begins: behind the head and the contents.
 pub const FIRST_BODY: usize = 16;
@@ -21,12 +23,12 @@ pub const SCHEMA_RULES: usize = 128;
 pub const LONGEST: usize = FIRST_BODY + 4 * RULES + 4 * SCHEMA_RULES + hedge::STATES;
 
 // How many symbols a template rule has, and how many a long one has.
-const SYMBOLS: u8 = 2;
+pub const SYMBOLS: u8 = 2;
 
 pub const LONG_SYMBOLS: u8 = 12;
 
 // A sound file's numbers: names, nonterminals and states, and how many entries each body has.
-#[derive(Clone, Copy)]
+#[derive(Clone, Copy, Debug, PartialEq, Eq)]
 pub struct Shape {
     pub names: u8,
     pub nonterminals: u8,
@@ -36,75 +38,39 @@ pub struct Shape {
     pub endings: u16,
 }
 
-// What reading a file answers: sound with its numbers, or bad with the place of its first fault.
-#[derive(Clone, Copy)]
-pub enum Reading {
-    Sound(Shape),
-    Bad(usize),
-}
-
 // The 16-bit number at a place, little-endian.
 fn half(file: &[u8], at: usize) -> u16
     requires { at + 1 < length file.now }
     ensures { result ≡ half_at file.now at }
 {
-    (numbers::wide(file[at]) + 256 * numbers::wide(file[at + 1])) as u16
+    u16::from_le_bytes([file[at], file[at + 1]])
 }
 
-fn is_between(low: usize, x: usize, high: usize) -> bool
-    ensures { result ≡ between low x high }
+// Is there at least one, and no more than the most?
+fn is_some_of(n: u8, most: usize) -> bool
+    ensures { result ≡ between 1 n most }
 {
-    (low <= x) & (x <= high)
+    (1..=most).contains(&usize::from(n))
 }
 
 // The length and bytes 0 to 3.
-fn head_fault(file: &[u8]) -> entries::Fault
+fn test_head(file: &[u8]) -> Result<(), Fault>
     ensures { result ≡ first_fault (head_tests file.now) }
 {
     if file.len() < FIRST_BODY {
-        return entries::Fault::At(0);
+        return Err(Fault { place: 0 });
     }
-    let f = entries::then_test(
-        entries::Fault::Nowhere,
-        is_between(1, numbers::wide(file[0]), words::NAMES),
-        0,
-    );
-    let f = entries::then_test(f, is_between(1, numbers::wide(file[1]), NONTERMINALS), 1);
-    let f = entries::then_test(f, is_between(1, numbers::wide(file[2]), hedge::STATES), 2);
-    entries::then_test(f, file[3] == 0, 3)
+    test(is_some_of(file[0], words::NAMES), 0)?;
+    test(is_some_of(file[1], NONTERMINALS), 1)?;
+    test(is_some_of(file[2], hedge::STATES), 2)?;
+    test(file[3] == 0, 3)
 }
 
-// Where the schema rules begin behind this many template rules of so many symbols.
-fn schema_start_of(symbols: u8, rules: usize) -> usize
-    requires { (symbols ≤ most_symbols) × (rules < 65536) }
-    ensures { (result ≡ first_body + rule_width symbols * rules) × (result < 1048576) }
+// The bytes of this many template rules of so many symbols.
+fn rules_bytes(symbols: u8, templates: u16) -> usize
+    ensures { (result ≡ rule_width symbols * templates) × (result < 33554432) }
 {
-    FIRST_BODY + (2 + numbers::wide(symbols)) * rules
-}
-
-// The contents, entry by entry, and the total length.
-fn contents_fault(file: &[u8], symbols: u8) -> entries::Fault
-    requires in_bounds { 16 ≤ length file.now }
-    requires symbols_le_most_symbols { symbols ≤ most_symbols }
-    ensures { result ≡ first_fault (contents_tests symbols file.now) }
-{
-    let states = numbers::wide(file[2]);
-    let first = numbers::wide_half(half(file, 4));
-    let rules = numbers::wide_half(half(file, 6));
-    let second = numbers::wide_half(half(file, 8));
-    let schema_rules = numbers::wide_half(half(file, 10));
-    let third = numbers::wide_half(half(file, 12));
-    let endings = numbers::wide_half(half(file, 14));
-    let schema_start = schema_start_of(symbols, rules);
-    let ending_start = schema_start + 4 * schema_rules;
-    let end = ending_start + endings;
-    let f = entries::then_test(entries::Fault::Nowhere, first == FIRST_BODY, 4);
-    let f = entries::then_test(f, rules <= RULES, 6);
-    let f = entries::then_test(f, second == schema_start, 8);
-    let f = entries::then_test(f, schema_rules <= SCHEMA_RULES, 10);
-    let f = entries::then_test(f, third == ending_start, 12);
-    let f = entries::then_test(f, endings <= states, 14);
-    entries::then_test(f, file.len() == end, 0)
+    (2 + usize::from(symbols)) * usize::from(templates)
 }
 
 // The numbers of the head and the contents.
@@ -122,179 +88,112 @@ fn shape_of(file: &[u8]) -> Shape
     }
 }
 
+// The contents, entry by entry, and the total length.
+fn test_contents(file: &[u8], symbols: u8) -> Result<(), Fault>
+    requires { 16 ≤ length file.now }
+    ensures { result ≡ first_fault (contents_tests symbols file.now) }
+{
+    let s = shape_of(file);
+    let second = FIRST_BODY + rules_bytes(symbols, s.templates);
+    let third = second + 4 * usize::from(s.schema);
+    let end = third + usize::from(s.endings);
+    test(usize::from(half(file, 4)) == FIRST_BODY, 4)?;
+    test(usize::from(s.templates) <= RULES, 6)?;
+    test(usize::from(half(file, 8)) == second, 8)?;
+    test(usize::from(s.schema) <= SCHEMA_RULES, 10)?;
+    test(usize::from(half(file, 12)) == third, 12)?;
+    test(s.endings <= u16::from(s.states), 14)?;
+    test(file.len() == end, 0)
+}
+
 // The three bodies in turn.
-fn bodies_fault(file: &[u8], s: Shape, symbols: u8) -> entries::Fault
+fn test_bodies(file: &[u8], s: Shape, symbols: u8) -> Result<(), Fault>
     requires s_value { s ≡ shape_of file.now }
-    requires symbols_le_most_symbols { symbols ≤ most_symbols }
     requires file_in_bounds { bodies_end_of symbols file.now ≤ length file.now }
     ensures { result ≡ first_fault (bodies symbols file.now) }
 {
-    let templates = numbers::wide_half(s.templates);
-    let schema = numbers::wide_half(s.schema);
-    let second = schema_start_of(symbols, templates);
-    let third = second + 4 * schema;
-    let sizes = entries::Sizes {
+    let sizes = Sizes {
         names: s.names,
         nonterminals: s.nonterminals,
         states: s.states,
     };
-    let f = entries::body_fault(
+    let second = FIRST_BODY + rules_bytes(symbols, s.templates);
+    let third = second + 4 * usize::from(s.schema);
+    test_body(
         file,
         sizes,
-        entries::Body::Templates(symbols),
+        Body::Templates(symbols),
         FIRST_BODY,
-        templates,
-    );
-    if let entries::Fault::At(p) = f {
-        return entries::Fault::At(p);
-    }
-    let g = entries::body_fault(file, sizes, entries::Body::Schema, second, schema);
-    if let entries::Fault::At(p) = g {
-        return entries::Fault::At(p);
-    }
-    entries::body_fault(
-        file,
-        sizes,
-        entries::Body::Endings,
-        third,
-        numbers::wide_half(s.endings),
-    )
+        usize::from(s.templates),
+    )?;
+    test_body(file, sizes, Body::Schema, second, usize::from(s.schema))?;
+    test_body(file, sizes, Body::Endings, third, usize::from(s.endings))
 }
 
-// Reads a file whose template rules have so many symbols.
-fn read_of(file: &[u8], symbols: u8) -> Reading
-    requires { symbols ≤ most_symbols }
+// Reads a file whose template rules have so many symbols: any bytes may be lent.
+pub fn read_of(file: &[u8], symbols: u8) -> Result<Shape, Fault>
     ensures { result ≡ reading_of symbols file.now }
 {
-    let head = head_fault(file);
-    if let entries::Fault::At(p) = head {
-        return Reading::Bad(p);
-    }
-    let contents = contents_fault(file, symbols);
-    if let entries::Fault::At(p) = contents {
-        return Reading::Bad(p);
-    }
+    test_head(file)?;
+    test_contents(file, symbols)?;
     let s = shape_of(file);
-    let rest = bodies_fault(file, s, symbols);
-    if let entries::Fault::At(p) = rest {
-        return Reading::Bad(p);
-    }
-    Reading::Sound(s)
+    test_bodies(file, s, symbols)?;
+    Ok(s)
 }
 
 // Reads a template file: any bytes may be lent.
-pub fn read(file: &[u8]) -> Reading
+pub fn read(file: &[u8]) -> Result<Shape, Fault>
     ensures { result ≡ reading file.now }
 {
     read_of(file, SYMBOLS)
 }
 
-// Reads a file of long rules: any bytes may be lent.
-pub fn read_long(file: &[u8]) -> Reading
-    ensures { result ≡ reading_of most_symbols file.now }
-{
-    read_of(file, LONG_SYMBOLS)
-}
-
-// Where a bad file has its first fault; a sound one has none, and the number is 0.
-pub fn place(r: Reading) -> usize
-    ensures { result ≡ number r }
-{
-    let Reading::Bad(p) = r else {
-        return 0;
-    };
-    p
-}
-
-// The reading in answer numbers (Rules, section 9): 0, or 7 with the place.
-pub fn answer(r: Reading) -> u32
+// The reading in numbers (Rules, section 9): 0, or 7 with the place of the first fault.
+pub fn answer(r: Result<Shape, Fault>) -> u32
     ensures { result ≡ answer r }
 {
     match r {
-        Reading::Sound(_) => 0,
-        Reading::Bad(_) => 7,
+        Ok(_) => 0,
+        Err(_) => 7,
     }
 }
 
-pub fn number(r: Reading) -> u64
+pub fn number(r: Result<Shape, Fault>) -> u64
     ensures { result ≡ number r }
 {
-    place(r) as u64
+    match r {
+        Ok(_) => 0,
+        Err(fault) => fault.place as u64,
+    }
 }
 
 // The part of a file from a place on, empty where the file ends before it does.
 fn part(file: &[u8], at: usize, len: usize) -> &[u8]
-    requires { at + len ≤ 2097152 }
+    requires { at + len ≤ 67108864 }
     ensures { result.now ≡ part_of file.now at len }
 {
-    let end = at + len;
-    if end <= file.len() {
-        return &file[at..end];
-    }
-    &file[0..0]
+    file.get(at..at + len).unwrap_or(&[])
 }
 
-// The template rules, four bytes each, where there are this many.
-pub fn template_rules(file: &[u8], templates: u16) -> &[u8]
-    ensures { result.now ≡ part_of file.now 16 (4 * templates) }
+// The template rules of so many symbols, where there are this many.
+pub fn template_rules(file: &[u8], symbols: u8, templates: u16) -> &[u8]
+    ensures { result.now ≡ part_of file.now first_body (rule_width symbols * templates) }
 {
-    part(file, FIRST_BODY, 4 * numbers::wide_half(templates))
+    part(file, FIRST_BODY, rules_bytes(symbols, templates))
 }
 
-// The schema rules, four bytes each, behind this many template rules.
-pub fn schema_rules(file: &[u8], templates: u16, schema: u16) -> &[u8]
-    ensures { result.now ≡ part_of file.now (16 + 4 * templates) (4 * schema) }
+// The schema rules, four bytes each, behind this many template rules of so many symbols.
+pub fn schema_rules(file: &[u8], symbols: u8, templates: u16, schema: u16) -> &[u8]
+    ensures { result.now ≡ part_of file.now (first_body + rule_width symbols * templates) (4 * schema) }
 {
-    part(
-        file,
-        FIRST_BODY + 4 * numbers::wide_half(templates),
-        4 * numbers::wide_half(schema),
-    )
+    let start = FIRST_BODY + rules_bytes(symbols, templates);
+    part(file, start, 4 * usize::from(schema))
 }
 
-// The ending states, a byte each, behind this many template rules and schema rules.
-pub fn ending_states(file: &[u8], templates: u16, schema: u16, endings: u16) -> &[u8]
-    ensures { result.now ≡ part_of file.now (16 + 4 * templates + 4 * schema) endings }
+// The ending states, a byte each, behind this many template rules of so many symbols and schema rules.
+pub fn ending_states(file: &[u8], symbols: u8, templates: u16, schema: u16, endings: u16) -> &[u8]
+    ensures { result.now ≡ part_of file.now (first_body + rule_width symbols * templates + 4 * schema) endings }
 {
-    part(
-        file,
-        FIRST_BODY + 4 * numbers::wide_half(templates) + 4 * numbers::wide_half(schema),
-        numbers::wide_half(endings),
-    )
-}
-
-// The bytes of this many long rules.
-fn long_bytes(templates: u16) -> usize
-    ensures { (result ≡ rule_width most_symbols * templates) × (result < 1048576) }
-{
-    (2 + numbers::wide(LONG_SYMBOLS)) * numbers::wide_half(templates)
-}
-
-// The long rules, where there are this many.
-pub fn long_rules(file: &[u8], templates: u16) -> &[u8]
-    ensures { result.now ≡ part_of file.now 16 (rule_width most_symbols * templates) }
-{
-    part(file, FIRST_BODY, long_bytes(templates))
-}
-
-// The schema rules behind this many long rules.
-pub fn schema_behind_long(file: &[u8], templates: u16, schema: u16) -> &[u8]
-    ensures { result.now ≡ part_of file.now (16 + rule_width most_symbols * templates) (4 * schema) }
-{
-    part(
-        file,
-        FIRST_BODY + long_bytes(templates),
-        4 * numbers::wide_half(schema),
-    )
-}
-
-// The ending states behind this many long rules and schema rules.
-pub fn endings_behind_long(file: &[u8], templates: u16, schema: u16, endings: u16) -> &[u8]
-    ensures { result.now ≡ part_of file.now (16 + rule_width most_symbols * templates + 4 * schema) endings }
-{
-    part(
-        file,
-        FIRST_BODY + long_bytes(templates) + 4 * numbers::wide_half(schema),
-        numbers::wide_half(endings),
-    )
+    let start = FIRST_BODY + rules_bytes(symbols, templates) + 4 * usize::from(schema);
+    part(file, start, usize::from(endings))
 }

@@ -11,4 +11,4 @@ returns-in_err-test_fields c =
 pub returns : goal.returns
 unfolding entry_tests
 returns c =
-    first_passes _ _ c.test_fields.ensures c.in_ok-test_fields.was (rw (← c.width.ensures, ← c.ascends.ensures) c.test.ensures)
+    first_passes _ _ c.test_fields.ensures c.in_ok-test_fields.was (rw (← c.width.ensures, ← c.ascends.ensures) c.ask.ensures)

@@ -26,4 +26,4 @@ returns-in-Schema c = rw c.in-Schema.is c.test_schema_rule.ensures
 
 pub returns-in-Endings : goal.returns-in-Endings
 unfolding field_tests
-returns-in-Endings c = rw c.in-Endings.is c.test.ensures
+returns-in-Endings c = rw c.in-Endings.is c.ask.ensures

@@ -8,20 +8,20 @@ use Rattle.entries.proofs.test_symbols.Goals as goal
 pub loop-j-init : goal.loop-j-init
 loop-j-init c = let all : c.args.symbols - 0 ≡ c.args.symbols = omega arith in rw all
 
-pub returns-in_err-test : goal.returns-in_err-test
-returns-in_err-test c =
+pub returns-in_err-ask : goal.returns-in_err-ask
+returns-in_err-ask c =
     let A = c.args.s.names in
     let N = c.args.s.nonterminals in
     passed_on c.from_residual.result c.from_residual.ensures.1
     ∙ part_stays _ _ (symbols_next A N c.args.file.now c.args.at c.args.symbols c.loop-j.j (omega arith)) c.loop-j.invariant
-    (symbol_tested A N c.args.file.now c.args.at c.loop-j.j c.from-used.ensures c.symbol_holds-holds.ensures c.test.ensures) c.in_err-test.was
+    (symbol_tested A N c.args.file.now c.args.at c.loop-j.j c.from-used.ensures c.symbol_holds-holds.ensures c.ask.ensures) c.in_err-ask.was
 
 pub loop-j-preserved : goal.loop-j-preserved
 loop-j-preserved c =
     let A = c.args.s.names in
     let N = c.args.s.nonterminals in
     part_passes _ _ (symbols_next A N c.args.file.now c.args.at c.args.symbols c.loop-j.j (omega arith)) c.loop-j.invariant
-    (symbol_tested A N c.args.file.now c.args.at c.loop-j.j c.from-used.ensures c.symbol_holds-holds.ensures c.test.ensures) c.in_ok-test.was
+    (symbol_tested A N c.args.file.now c.args.at c.loop-j.j c.from-used.ensures c.symbol_holds-holds.ensures c.ask.ensures) c.in_ok-ask.was
 
 pub returns : goal.returns
 returns c =

@@ -1,6 +1,6 @@
 -- By the test: each way is a clause of `unless`. Assumes nothing.
 use Rattle.entries.specs.Tests.{first_fault}
-use Rattle.entries.proofs.test.Goals as goal
+use Rattle.entries.proofs.ask.Goals as goal
 
 pub returns-then-holds : goal.returns-then-holds
 unfolding first_fault
