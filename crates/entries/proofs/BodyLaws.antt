@@ -2,7 +2,7 @@
 -- Each law opens the definition once, where the number of entries left is zero or one more than another. Assumes nothing.
 use mathlib.Core.Path.{◌≡◌, refl, sym}
 use mathlib.Core.List.{List, ◌++◌}
-use Prim.Native.Nat.{ℕ, suc, ◌+◌, ◌*◌, ◌-◌, ◌≤◌, ◌<◌}
+use Prim.Native.Nat.{ℕ, zero, suc, ◌+◌, ◌*◌, ◌-◌, ◌≤◌, ◌<◌}
 use native.Mathlib.Nat.{mul-suc, mul-le-mul_left}
 use native.Mathlib.Omega.{arith}
 use Rattle.entries.specs.Tests.{Test, first_fault}
@@ -42,6 +42,12 @@ module _ (b : Body) (s : Sizes) (f : List ℕ) (first count : ℕ) where
       let more : count - k ≡ suc (count - (k + 1)) = omega arith in
       let behind : first + width b * k + width b ≡ first + width b * (k + 1) = omega (arith, mul-suc (width b) k) in
       rw (more, behind)
+
+-- an entry behind the first has an entry's room before it
+
+pub behind_first : (w first k : ℕ) → first < first + w * k → w ≤ first + w * k
+behind_first w first zero h = absurd (omega arith)
+behind_first w first (suc k) h = omega (arith, mul-suc w k)
 
 -- the room of the entry that is next
 

@@ -1,7 +1,7 @@
 // The entries of a file's bodies: the tests of an entry in their order, and its first fault.
 #![tactic(auto)]
 
-ghost use Rattle.std.specs.Prelude.{◌≡◌, [], ◌∷◌, ◌+◌, ◌*◌, ◌≤◌, length};
+ghost use Rattle.std.specs.Prelude.{◌≡◌, [], ◌∷◌, ◌+◌, ◌*◌, ◌<◌, ◌≤◌, length};
 ghost use Rattle.entries.specs.Tests.{test, or_then, first_fault};
 ghost use Rattle.entries.specs.Entries.{rule_width, is_symbol, symbol_holds, symbol_tests, field_tests};
 ghost use Rattle.entries.specs.Entries.{width, precedes, ascends, entry_tests, body_tests};
@@ -155,7 +155,7 @@ fn precedes(left: &[u8], right: &[u8]) -> bool
 
 // Is the entry its body's first, or the one before it smaller?
 fn ascends(file: &[u8], wide: usize, first: usize, at: usize) -> bool
-    requires { (wide ≤ at) × (at + wide ≤ length file.now) }
+    requires { (first < at → wide ≤ at) × (at + wide ≤ length file.now) }
     ensures { result ≡ ascends wide file.now first at }
 {
     if at <= first {
@@ -168,7 +168,7 @@ fn ascends(file: &[u8], wide: usize, first: usize, at: usize) -> bool
 
 // One entry: its fields, then the ascent.
 fn test_entry(file: &[u8], s: Sizes, body: Body, first: usize, at: usize) -> Result<(), Fault>
-    requires { (width body ≤ at) × (at + width body ≤ length file.now) }
+    requires { (first < at → width body ≤ at) × (at + width body ≤ length file.now) }
     ensures { result ≡ first_fault (entry_tests body s.names s.nonterminals s.states file.now first at) }
 {
     test_fields(file, s, body, at)?;
@@ -177,7 +177,7 @@ fn test_entry(file: &[u8], s: Sizes, body: Body, first: usize, at: usize) -> Res
 
 // The entries of a body in turn: the first fault decides.
 pub fn test_body(file: &[u8], s: Sizes, body: Body, first: usize, count: usize) -> Result<(), Fault>
-    requires { (width body ≤ first) × (first + width body * count ≤ length file.now) }
+    requires { first + width body * count ≤ length file.now }
     ensures { result ≡ first_fault (body_tests body s.names s.nonterminals s.states file.now first first count) }
 {
     let wide = width(body);

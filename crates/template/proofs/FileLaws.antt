@@ -5,7 +5,8 @@ use mathlib.Core.List.{List}
 use Prim.Native.Nat.{ℕ, ◌≤◌}
 use borrow.Author.Tests.{leb-true, eqb-true}
 use lib.ListN.{length}
-use Rattle.entries.specs.Tests.{Test, first_fault}
+use Rattle.entries.specs.Tests.{first_fault}
+use Rattle.entries.specs.declared.Test.{Test}
 use Rattle.std.specs.Prelude.{Ok, Err}
 use Rattle.entries.specs.Tests.{Tested}
 use Rattle.entries.specs.declared.Fault.{Fault}

@@ -3,7 +3,8 @@
 use Rattle.std.specs.Prelude.{◌≡◌, Bool, ◌&&◌, List, [], ◌∷◌, ◌++◌, ℕ, leb, eqb, length, Result, Ok, Err}
 use Rattle.words.specs.Tags.{most_names}
 use Rattle.hedge.specs.Schema.{most_states}
-use Rattle.entries.specs.Tests.{Test, test, Tested, first_fault}
+use Rattle.entries.specs.Tests.{test, Tested, first_fault}
+use Rattle.entries.specs.declared.Test.{Test}
 use Rattle.entries.specs.Entries.{byte_at, rule_symbols, body_tests}
 use Rattle.entries.specs.declared.Fault.{Fault}
 use Rattle.entries.specs.declared.Body.{Body}

@@ -2,13 +2,13 @@
 #![tactic(auto)]
 
 ghost use Rattle.std.specs.Prelude.{◌≡◌, ◌+◌, ◌*◌, ◌≤◌, ◌<◌, length};
-ghost use Rattle.entries.specs.Tests.{first_fault};
+ghost use Rattle.entries.specs.Tests.{test, first_fault};
 ghost use Rattle.entries.specs.Entries.{rule_width};
 ghost use Rattle.template.specs.Layout.{first_body, half_at, bodies_end_of, part_of};
 ghost use Rattle.template.specs.Order.{between, head_tests, contents_tests, bodies};
 ghost use Rattle.template.specs.Order.{shape_of, reading_of, reading, answer, number};
 
-use entries::{Body, Fault, Sizes, test, test_body};
+use entries::{Body, Fault, Sizes, Test, first_fault, test_body};
 
 // Where the first body begins: behind the head and the contents.
 pub const FIRST_BODY: usize = 16;
@@ -53,6 +53,13 @@ fn is_some_of(n: u8, most: usize) -> bool
     (1..=most).contains(&usize::from(n))
 }
 
+// A test of the order of reading: what must hold, or the fault is at this place.
+fn at(place: usize, holds: bool) -> Test
+    ensures { result ≡ test holds place }
+{
+    Test { holds, place }
+}
+
 // The length and bytes 0 to 3.
 fn test_head(file: &[u8]) -> Result<(), Fault>
     ensures { result ≡ first_fault (head_tests file.now) }
@@ -60,10 +67,12 @@ fn test_head(file: &[u8]) -> Result<(), Fault>
     if file.len() < FIRST_BODY {
         return Err(Fault { place: 0 });
     }
-    test(is_some_of(file[0], words::NAMES), 0)?;
-    test(is_some_of(file[1], NONTERMINALS), 1)?;
-    test(is_some_of(file[2], hedge::STATES), 2)?;
-    test(file[3] == 0, 3)
+    first_fault(&[
+        at(0, is_some_of(file[0], words::NAMES)),
+        at(1, is_some_of(file[1], NONTERMINALS)),
+        at(2, is_some_of(file[2], hedge::STATES)),
+        at(3, file[3] == 0),
+    ])
 }
 
 // The bytes of this many template rules of so many symbols.
@@ -97,13 +106,15 @@ fn test_contents(file: &[u8], symbols: u8) -> Result<(), Fault>
     let second = FIRST_BODY + rules_bytes(symbols, s.templates);
     let third = second + 4 * usize::from(s.schema);
     let end = third + usize::from(s.endings);
-    test(usize::from(half(file, 4)) == FIRST_BODY, 4)?;
-    test(usize::from(s.templates) <= RULES, 6)?;
-    test(usize::from(half(file, 8)) == second, 8)?;
-    test(usize::from(s.schema) <= SCHEMA_RULES, 10)?;
-    test(usize::from(half(file, 12)) == third, 12)?;
-    test(s.endings <= u16::from(s.states), 14)?;
-    test(file.len() == end, 0)
+    first_fault(&[
+        at(4, usize::from(half(file, 4)) == FIRST_BODY),
+        at(6, usize::from(s.templates) <= RULES),
+        at(8, usize::from(half(file, 8)) == second),
+        at(10, usize::from(s.schema) <= SCHEMA_RULES),
+        at(12, usize::from(half(file, 12)) == third),
+        at(14, s.endings <= u16::from(s.states)),
+        at(0, file.len() == end),
+    ])
 }
 
 // The three bodies in turn.

@@ -10,4 +10,4 @@ returns-then-at-first c = ascends_first c.args.wide c.args.file.now c.args.first
 pub returns : goal.returns
 returns c =
     c.precedes.ensures
-    ∙ ascends_later c.args.wide c.args.file.now c.args.first c.args.at c.requires.0 c.if-at-first.false
+    ∙ ascends_later c.args.wide c.args.file.now c.args.first c.args.at (c.requires.0 c.if-at-first.false) c.if-at-first.false

@@ -3,7 +3,7 @@
 use Rattle.std.proofs.Common.{◌≡◌, ◌+◌, ◌*◌, ◌≤◌, length, refl, ◌∙◌, sym, arith, rules}
 use Rattle.entries.specs.Entries.{width}
 use Rattle.entries.proofs.OrderLaws.{passed_on, part_stays, part_passes}
-use Rattle.entries.proofs.BodyLaws.{body_all, body_end, body_next, room_next}
+use Rattle.entries.proofs.BodyLaws.{behind_first, body_all, body_end, body_next, room_next}
 use Rattle.entries.proofs.test_body.Goals as goal
 
 pub loop-k-init : goal.loop-k-init
@@ -11,18 +11,18 @@ loop-k-init c = refl
 
 pub overflow_mul-wide : goal.overflow_mul-wide
 overflow_mul-wide c =
-    let room = room_next _ _ _ _ _ c.requires.1 c.loop-k-test.true in
+    let room = room_next _ _ _ _ _ c.requires c.loop-k-test.true in
     rw c.width-wide.ensures (search rules)
 
 pub overflow_add-first : goal.overflow_add-first
 overflow_add-first c =
-    let room = room_next _ _ _ _ _ c.requires.1 c.loop-k-test.true in
+    let room = room_next _ _ _ _ _ c.requires c.loop-k-test.true in
     rw c.width-wide.ensures (search rules)
 
 pub test_entry-requires : goal.test_entry-requires
 test_entry-requires c =
-    let room = room_next _ _ _ _ _ c.requires.1 c.loop-k-test.true in
-    rw c.width-wide.ensures (omega (arith, c.requires.0), room)
+    let room = room_next _ _ _ _ _ c.requires c.loop-k-test.true in
+    rw c.width-wide.ensures (behind_first (width c.args.body) c.args.first c.loop-k.k, room)
 
 pub returns-in_err-test_entry : goal.returns-in_err-test_entry
 returns-in_err-test_entry c =
