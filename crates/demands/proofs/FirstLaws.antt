@@ -9,7 +9,7 @@ use native.Mathlib.Omega.{arith}
 use lib.IntN.{pos}
 use Rattle.entries.specs.Entries.{rule_symbols}
 use Rattle.template.specs.Order.{reading}
-use Rattle.template.specs.declared.Reading.TheVariants.{Bad}
+use Rattle.template.specs.Order.{faulty}
 use Rattle.form.specs.declared.Summary.{Summary}
 use Rattle.summary.specs.Packing.{zeros}
 use Rattle.summary.specs.Fragments.{FragmentAnswers, FragmentSays}
@@ -131,7 +131,7 @@ module _ (f : List ℕ) (s : Summary) (r : DepthReply) (says : DepthSays f s r) 
 -- ---- checks: a refusal leaves the worktable as it was
 
 module _ (f t t' : List ℕ) (budget : ℕ) (r : CheckReply) (says : CheckSays f t budget r t') where
-  check_bad : (p : ℕ) → ((answer r ≡ 7) × (number r ≡ p)) ↔ (Lent f t budget × (reading f ≡ Bad p))
+  check_bad : (p : ℕ) → ((answer r ≡ 7) × (number r ≡ p)) ↔ (Lent f t budget × (reading f ≡ faulty p))
   check_bad p =
       in_words (placed (check_replies f t budget) r (t', says) 7 p refl refl)
       (λ (u, (lent, bad, e)). (lent, bad)) (λ (lent, bad). (t, (lent, bad, refl)))

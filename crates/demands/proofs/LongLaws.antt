@@ -12,7 +12,7 @@ use Rattle.words.specs.Tags.{Tag}
 use Rattle.hedge.specs.Schema.{Schema, schema_from, Valid}
 use Rattle.template.specs.Layout.{longest_file, name_count, nonterminals}
 use Rattle.template.specs.Order.{SoundOf, reading_of}
-use Rattle.template.specs.declared.Reading.TheVariants.{Bad}
+use Rattle.template.specs.Order.{faulty}
 use Rattle.template.proofs.SoundLaws.{sound_file, sound_file_of, sound_length}
 use Rattle.schema.specs.Schemas.{schema_of}
 use Rattle.reader.specs.Reads.{Spelled}
@@ -67,7 +67,7 @@ module _ (f out out' : List ℕ) where
 -- ---- the answers
 
 module _ (f out out' : List ℕ) (r : SplitReply) (says : SplitSays f out r out') where
-  split_bad : (p : ℕ) → ((answer r ≡ 7) × (number r ≡ p)) ↔ (reading_of long_symbols f ≡ Bad p)
+  split_bad : (p : ℕ) → ((answer r ≡ 7) × (number r ≡ p)) ↔ (reading_of long_symbols f ≡ faulty p)
   split_bad p =
       in_words (placed (split_replies f out) r (out', says) 7 p refl refl) (λ (u, (bad, e)). bad) (λ bad. (out, (bad, refl)))
 

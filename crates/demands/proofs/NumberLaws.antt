@@ -8,8 +8,9 @@ use native.Mathlib.Omega.{arith}
 use lib.ListN.{length, get_or}
 use Rattle.entries.specs.Entries.{rule_symbols}
 use Rattle.template.specs.Order.{SoundOf, reading_of, reading, answer, number}
-use Rattle.template.specs.declared.Reading.{Reading}
-use Rattle.template.specs.declared.Reading.TheVariants.{Sound, Bad}
+use Rattle.template.specs.Order.{Reading}
+use Rattle.std.specs.Prelude.{Ok}
+use Rattle.template.specs.Order.{faulty}
 use Rattle.template.proofs.SoundLaws.{reading_sound_of}
 use Rattle.template.proofs.ShapeLaws.{sound_not_bad_of}
 use Rattle.demands.specs.First.{FileFirst}
@@ -52,15 +53,15 @@ module _ {R : Type 0} (N : Numbered R) (r : R) (says : N.Says r) where
 
 module _ (symbols : ℕ) (f : List ℕ) where
   -- a file that is not sound is bad at some place
-  bad_somewhere : (SoundOf symbols f → ⊥) → (p : ℕ) × (reading_of symbols f ≡ Bad p)
+  bad_somewhere : (SoundOf symbols f → ⊥) → (p : ℕ) × (reading_of symbols f ≡ faulty p)
   bad_somewhere none = by (reading_of symbols f) refl
     where
-      by : (r : Reading) → reading_of symbols f ≡ r → (p : ℕ) × (reading_of symbols f ≡ Bad p)
-      by (Sound s) e = absurd (none (reading_sound_of symbols f s e).0)
-      by (Bad p) e = (p, e)
+      by : (r : Reading) → reading_of symbols f ≡ r → (p : ℕ) × (reading_of symbols f ≡ faulty p)
+      by (Ok s) e = absurd (none (reading_sound_of symbols f s e).0)
+      by (faulty p) e = (p, e)
 
   -- 7 is given with the place where the file is bad, and only where nothing before it is due
-  module _ (Due : Type 0) (a n : ℕ) (given : (p : ℕ) → ((a ≡ 7) × (n ≡ p)) ↔ (Due × (reading_of symbols f ≡ Bad p))) where
+  module _ (Due : Type 0) (a n : ℕ) (given : (p : ℕ) → ((a ≡ 7) × (n ≡ p)) ↔ (Due × (reading_of symbols f ≡ faulty p))) where
     pub bad_exactly : (a ≡ 7) ↔ (Due × (SoundOf symbols f → ⊥))
     bad_exactly = (
       λ e. let (due, bad) = (given n).0 (e, refl) in (due, λ sound. sound_not_bad_of symbols f n sound bad),
@@ -71,8 +72,8 @@ module _ (symbols : ℕ) (f : List ℕ) where
     bad_place e = let (due, bad) = (given n).0 (e, refl) in (ap answer bad, sym (ap number bad))
 
   -- where nothing is before it
-  module _ (a n : ℕ) (given : (p : ℕ) → ((a ≡ 7) × (n ≡ p)) ↔ (reading_of symbols f ≡ Bad p)) where
-    first : (p : ℕ) → ((a ≡ 7) × (n ≡ p)) ↔ (Unit {0} × (reading_of symbols f ≡ Bad p))
+  module _ (a n : ℕ) (given : (p : ℕ) → ((a ≡ 7) × (n ≡ p)) ↔ (reading_of symbols f ≡ faulty p)) where
+    first : (p : ℕ) → ((a ≡ 7) × (n ≡ p)) ↔ (Unit {0} × (reading_of symbols f ≡ faulty p))
     first p = in_words (given p) (λ bad. (tt, bad)) (λ (_, bad). bad)
 
     pub first_exactly : (a ≡ 7) ↔ (SoundOf symbols f → ⊥)
@@ -81,7 +82,7 @@ module _ (symbols : ℕ) (f : List ℕ) where
     pub first_place : a ≡ 7 → (answer (reading_of symbols f) ≡ 7) × (n ≡ number (reading_of symbols f))
     first_place = bad_place (Unit {0}) a n first
 
-pub file_first : (f : List ℕ) (a n : ℕ) → ((p : ℕ) → ((a ≡ 7) × (n ≡ p)) ↔ (reading f ≡ Bad p)) → FileFirst f a n
+pub file_first : (f : List ℕ) (a n : ℕ) → ((p : ℕ) → ((a ≡ 7) × (n ≡ p)) ↔ (reading f ≡ faulty p)) → FileFirst f a n
 file_first f a n given =
     record { bad_file = first_exactly rule_symbols f a n given; place = first_place rule_symbols f a n given }
 

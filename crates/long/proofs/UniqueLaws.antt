@@ -7,7 +7,7 @@ use Prim.Native.Nat.{ℕ, ◌≤◌, ◌<◌}
 use native.Mathlib.Omega.{arith}
 use lib.ListN.{length, drop}
 use Rattle.template.specs.Order.{SoundOf, reading_of, number, answer}
-use Rattle.template.specs.declared.Reading.TheVariants.{Bad}
+use Rattle.template.specs.Order.{faulty}
 use Rattle.template.proofs.SoundLaws.{sound_reading_of}
 use Rattle.save.proofs.UniqueLaws.{sound_entries_same}
 use Rattle.long.specs.Rules.{long_symbols}
@@ -27,7 +27,7 @@ shortens_unique f F G a b =
 -- ---- one answer
 
 module _ (f out : List ℕ) where
-  bad_sound : (p : ℕ) → reading_of long_symbols f ≡ Bad p → SoundOf long_symbols f → ⊥
+  bad_sound : (p : ℕ) → reading_of long_symbols f ≡ faulty p → SoundOf long_symbols f → ⊥
   bad_sound p e s = let z : ◌≡◌ {A = ℕ} 7 0 = ap answer (sym e ∙ sound_reading_of long_symbols f s) in omega arith
 
   -- the ordinary file is longer than the output, or it is not

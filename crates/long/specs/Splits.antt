@@ -5,7 +5,7 @@ use Rattle.std.specs.Prelude.{◌≡◌, List, ◌++◌, ◌↔◌, ℕ, ◌+◌
 use Rattle.template.specs.Layout.{name_count, nonterminals, states}
 use Rattle.template.specs.Layout.{template_rules, schema_rules, ending_states, template_rules_of, schema_rules_of, ending_states_of}
 use Rattle.template.specs.Order.{IsSound, SoundOf, reading_of}
-use Rattle.template.specs.declared.Reading.TheVariants.{Bad}
+use Rattle.template.specs.Order.{faulty}
 use Rattle.save.specs.Entries.{Entry}
 use Rattle.save.specs.Files.{Bytes}
 use Rattle.long.specs.Rules.{long_symbols, long_count, extras, PartsFit, IsPart}
@@ -36,7 +36,7 @@ module _ (f : List ℕ) where
     pub endings_same : ending_states F ≡ ending_states_of long_symbols f
 
   abbrev pub SplitSays : List ℕ → SplitReply → List ℕ → Type 0
-  SplitSays out (Err (BadFile p)) out' = (reading_of long_symbols f ≡ Bad p) × (out' ≡ out)
+  SplitSays out (Err (BadFile p)) out' = (reading_of long_symbols f ≡ faulty p) × (out' ≡ out)
   SplitSays out (Err TooMany) out' = SoundOf long_symbols f × (PartsFit (nonterminals f) long_rules → ⊥) × (out' ≡ out)
   SplitSays out (Err Short) out' = SoundOf long_symbols f × PartsFit (nonterminals f) long_rules × ((F : List ℕ) × Shortens F × (length out < length F)) × (out' ≡ out)
   SplitSays out (Ok n) out' =

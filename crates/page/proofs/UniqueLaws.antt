@@ -11,7 +11,7 @@ use Rattle.pieces.specs.declared.Piece.{Piece}
 use Rattle.pieces.specs.Pieces.{most_tags}
 use Rattle.template.specs.Layout.{name_count}
 use Rattle.template.specs.Order.{IsSound, reading}
-use Rattle.template.specs.declared.Reading.TheVariants.{Bad}
+use Rattle.template.specs.Order.{faulty}
 use Rattle.form.specs.declared.Ending.{Ending}
 use Rattle.form.specs.declared.Ending.TheVariants as ending
 use Rattle.reader.specs.Reads.{Found, whole, refused, no_tag, mismatch, too_many, Spelled, reads_all}
@@ -52,7 +52,7 @@ module _ (f bytes : List ℕ) where
 
   abbrev pub PageCase : PageReply → Type 0
   PageCase p =
-      ((i : ℕ) × (reading f ≡ Bad i) × (p ≡ page.BadFile i))
+      ((i : ℕ) × (reading f ≡ faulty i) × (p ≡ page.BadFile i))
       ⊎ (IsSound f × ((found : Found Piece) × ReadUnder f bytes found × PageFound found p))
 
   end_case : (p : PageReply) → ReadWhole f bytes (λ w. EndSays f w p) → PageCase p

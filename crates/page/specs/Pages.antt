@@ -8,7 +8,7 @@ use Rattle.hedge.specs.Schema.{Valid as IsValid}
 use Rattle.pieces.specs.Pieces.{most_tags}
 use Rattle.template.specs.Layout.{name_count}
 use Rattle.template.specs.Order.{IsSound, reading}
-use Rattle.template.specs.declared.Reading.TheVariants.{Bad}
+use Rattle.template.specs.Order.{faulty}
 use Rattle.reader.specs.Reads.{Spelled, AllReadable, refused, no_tag, mismatch, too_many}
 use Rattle.schema.specs.Schemas.{schema_of, binoid_of}
 use Rattle.summary.specs.Fragments.{ReadUnder}
@@ -26,7 +26,7 @@ ReadWhole f bytes P =
 
 abbrev pub PageSays : List ℕ → List ℕ → PageReply → Type 0
 PageSays f bytes Valid = ReadWhole f bytes (λ w. IsValid (schema_of f) w)
-PageSays f bytes (BadFile p) = reading f ≡ Bad p
+PageSays f bytes (BadFile p) = reading f ≡ faulty p
 PageSays f bytes (NotATag p) = IsSound f × ReadUnder f bytes (refused no_tag p)
 PageSays f bytes (Mismatch p) = IsSound f × ReadUnder f bytes (refused mismatch p)
 PageSays f bytes (TooDeep p) = IsSound f × ReadUnder f bytes (refused too_many p)

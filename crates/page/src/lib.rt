@@ -3,7 +3,6 @@
 
 ghost use Rattle.std.specs.Prelude.{◌≡◌};
 ghost use Rattle.template.specs.Order.{reading};
-ghost use Rattle.template.specs.declared.Reading.TheVariants.{Sound};
 ghost use Rattle.form.specs.Held.{form_of, last_of, Holds};
 ghost use Rattle.form.specs.Endings.{ending_of};
 ghost use Rattle.page.specs.Pages.{PageSays, reply_of, refusal, answer, number};
@@ -58,7 +57,7 @@ fn refusal(a: summary::FragmentAnswer) -> PageReply
 
 // Reads a page under a sound file of these numbers.
 fn read_under(file: &[u8], shape: template::Shape, bytes: &[u8]) -> PageReply
-    requires { reading file.now ≡ Sound shape }
+    requires { reading file.now ≡ Ok shape }
     ensures { PageSays file.now bytes.now result }
 {
     let mut lore = [0u64; lore::LORE];

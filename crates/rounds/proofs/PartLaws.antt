@@ -12,7 +12,7 @@ use Rattle.numbers.specs.Bits.{bit}
 use Rattle.template.specs.Layout.{most_rules, part_of, template_rules}
 use Rattle.template.specs.Grammar.{Gives}
 use Rattle.template.specs.Order.{reading}
-use Rattle.template.specs.declared.Reading.TheVariants.{Sound}
+use Rattle.std.specs.Prelude.{Ok}
 use Rattle.template.specs.declared.Shape.{Shape}
 use Rattle.template.proofs.SoundLaws.{reading_sound, sound_file}
 use Rattle.template.proofs.ShapeLaws.{shape_sound}
@@ -22,7 +22,7 @@ use Rattle.useful.specs.Marks.{RulesInRange, MarksAll}
 use Rattle.useful.proofs.UsefulLaws.{marks_useful, sound_in_range}
 use Rattle.rounds.specs.Checks.{HasPage}
 
-module _ (f : List ℕ) {rules : List ℕ} {shape : Shape} (sound : reading f ≡ Sound shape)
+module _ (f : List ℕ) {rules : List ℕ} {shape : Shape} (sound : reading f ≡ Ok shape)
     (part : rules ≡ part_of f 16 (4 * shape.templates)) where
   pub templates_are : rules ≡ template_rules f
   templates_are = part ∙ ap (λ (s : Shape). part_of f 16 (4 * s.templates)) (reading_sound f shape sound).1

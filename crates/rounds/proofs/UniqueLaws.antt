@@ -8,7 +8,7 @@ use Prim.Native.Nat.{ℕ, zero, suc, ◌≤◌, ◌<◌}
 use native.Mathlib.Omega.{arith}
 use lib.ListN.{length}
 use Rattle.template.specs.Order.{IsSound, reading}
-use Rattle.template.specs.declared.Reading.TheVariants.{Bad}
+use Rattle.template.specs.Order.{faulty}
 use Rattle.template.proofs.ShapeLaws.{sound_not_bad}
 use Rattle.trees.specs.Verdict.{Decision, met, passed, used, Decides}
 use Rattle.trees.proofs.BudgetLaws.{decides_unique}
@@ -92,10 +92,10 @@ module _ (f t : List ℕ) (budget : ℕ) where
 
   -- a bad file
   abbrev pub Faulty : Type 0
-  Faulty = (p : ℕ) × (reading f ≡ Bad p)
+  Faulty = (p : ℕ) × (reading f ≡ faulty p)
 
   abbrev pub Faulted : Promise
-  Faulted s u = (p : ℕ) × (reading f ≡ Bad p) × Exactly (check.BadFile p) t s u
+  Faulted s u = (p : ℕ) × (reading f ≡ faulty p) × Exactly (check.BadFile p) t s u
 
   faulted_unique : Unique Faulted
   faulted_unique r s u v (p, e, (a, b)) (q, d, (a', b')) =

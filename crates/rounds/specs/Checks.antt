@@ -8,7 +8,7 @@ use Rattle.hedge.specs.Schema.{Valid}
 use Rattle.template.specs.Layout.{template_rules}
 use Rattle.template.specs.Order.{IsSound, reading}
 use Rattle.template.specs.Grammar.{Symbol, Gives}
-use Rattle.template.specs.declared.Reading.TheVariants.{Bad}
+use Rattle.template.specs.Order.{faulty}
 use Rattle.pieces.specs.declared.Piece.{Piece}
 use Rattle.pieces.specs.Pieces.{most_tags}
 use Rattle.schema.specs.Schemas.{schema_of, binoid_of}
@@ -73,6 +73,6 @@ module _ (f t : List ℕ) (budget : ℕ) where
   CheckSays (check.Crowded r) t' = Decided (met r 4) × (t' ≡ zeroed t)
   CheckSays (check.OutOfRounds b) t' = (b ≡ budget) × Decided used × (t' ≡ zeroed t)
   CheckSays check.NoPage t' = Lent × IsSound f × (HasPage f → ⊥) × (t' ≡ t)
-  CheckSays (check.BadFile p) t' = Lent × (reading f ≡ Bad p) × (t' ≡ t)
+  CheckSays (check.BadFile p) t' = Lent × (reading f ≡ faulty p) × (t' ≡ t)
   CheckSays check.BadBudget t' = (table_long ≤ length t) × ((1 ≤ budget) × (budget ≤ most_rounds) → ⊥) × (t' ≡ t)
   CheckSays check.ShortTable t' = (length t < table_long) × (t' ≡ t)

@@ -4,7 +4,6 @@
 ghost use Rattle.std.specs.Prelude.{◌≡◌, ◌≤◌, length};
 ghost use Rattle.template.specs.Layout.{template_rules};
 ghost use Rattle.template.specs.Order.{reading};
-ghost use Rattle.template.specs.declared.Reading.TheVariants.{Sound};
 ghost use Rattle.schema.specs.Schemas.{LoreOf};
 ghost use Rattle.rows.specs.Tables.{cleared};
 ghost use Rattle.worktable.specs.Packed.{table_long};
@@ -91,7 +90,7 @@ fn rounds(
     table: &mut [u64],
     budget: usize,
 ) -> CheckReply
-    requires file_value { reading file.now ≡ Sound shape }
+    requires file_value { reading file.now ≡ Ok shape }
     requires lore_of { LoreOf file.now lore.now }
     requires shares { Shares (template_rules file.now) shares.now }
     requires has_page { HasPage file.now }
@@ -129,7 +128,7 @@ fn rounds(
 
 // Checks a sound file of these numbers. What does not change between rounds is found here, once.
 fn check_sound(file: &[u8], shape: template::Shape, table: &mut [u64], budget: usize) -> CheckReply
-    requires file_value { reading file.now ≡ Sound shape }
+    requires file_value { reading file.now ≡ Ok shape }
     requires lent { Lent file.now table.old budget }
     ensures { CheckSays file.now table.old budget result table.new }
 {

@@ -3,19 +3,18 @@
 use mathlib.Core.Path.{◌≡◌, refl}
 use mathlib.Core.List.{List}
 use Prim.Native.Nat.{ℕ, ◌+◌, ◌*◌, ◌≤◌}
-use borrow.Author.Rules.{rules}
 use Rattle.words.specs.Tags.{most_names}
 use Rattle.hedge.specs.Schema.{most_states, RulesBelow, EndsBelow}
 use Rattle.lore.specs.Lore.{NamesBelow, Taught}
 use Rattle.template.specs.Layout.{part_of}
 use Rattle.template.specs.Order.{reading}
-use Rattle.template.specs.declared.Reading.TheVariants.{Sound}
+use Rattle.std.specs.Prelude.{Ok}
 use Rattle.template.specs.declared.Shape.{Shape}
 use Rattle.template.proofs.ShapeLaws.{shape_sound, states_are, states_few, rules_are, endings_are}
 use Rattle.schema.specs.Schemas.{LoreOf}
 use Rattle.schema.proofs.SchemaLaws.{file_rules_below, file_names_below, file_endings_below}
 
-module _ (f : List ℕ) (shape : Shape) (sound : reading f ≡ Sound shape) where
+module _ (f : List ℕ) (shape : Shape) (sound : reading f ≡ Ok shape) where
   module _ (q : ℕ) (h : q ≡ shape.states) where
     pub teach_few : q ≤ most_states
     teach_few = states_few f shape sound q h
@@ -41,12 +40,3 @@ module _ (f : List ℕ) (shape : Shape) (sound : reading f ≡ Sound shape) wher
         ← rules_are f shape sound q h rules ends hr he,
         ← endings_are f shape sound q h rules ends hr he,
       ) t
-
-pub ruleset teach_turns = (
-  teach_few,
-  teach_rules_below,
-  teach_names_below,
-  teach_ends_below,
-  teach_taught,
-  rules,
-)

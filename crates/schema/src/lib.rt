@@ -5,16 +5,21 @@ ghost use Rattle.std.specs.Prelude.{◌≡◌};
 ghost use Rattle.hedge.specs.Schema.{most_states};
 ghost use Rattle.lore.specs.Lore.{lore_long, zeros};
 ghost use Rattle.template.specs.Order.{reading};
-ghost use Rattle.template.specs.declared.Reading.TheVariants.{Sound};
 ghost use Rattle.schema.specs.Schemas.{LoreOf};
+
+use view::View;
 
 // Teaches the schema of a sound file of these numbers, into a table of zeros.
 pub fn teach(file: &[u8], shape: template::Shape, lore: &mut [u64; lore::LORE])
-    requires file_value { reading file.now ≡ Sound shape }
+    requires file_value { reading file.now ≡ Ok shape }
     requires lore_value { lore.old ≡ zeros (lore_long most_states) }
     ensures { LoreOf file.now lore.new }
 {
-    let rules = view::schema_of(file, shape);
-    let endings = view::endings_of(file, shape);
-    lore::teach(rules, endings, numbers::wide(shape.states), lore);
+    let view = View::of(file, shape);
+    lore::teach(
+        view.schema(),
+        view.endings(),
+        usize::from(shape.states),
+        lore,
+    );
 }

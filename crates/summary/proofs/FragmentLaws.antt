@@ -13,7 +13,7 @@ use Rattle.pieces.specs.declared.Piece.{Piece}
 use Rattle.pieces.specs.Pieces.{most_tags, pieces_long, piece_at, put_piece, lifted, pieces, Counted}
 use Rattle.pieces.proofs.PieceLaws.{piece_same}
 use Rattle.template.specs.Order.{IsSound, reading}
-use Rattle.template.specs.declared.Reading.TheVariants.{Sound, Bad}
+use Rattle.template.specs.Order.{faulty}
 use Rattle.template.specs.declared.Shape.{Shape}
 use Rattle.template.proofs.ShapeLaws.{read_is, shape_sound, names_are}
 use Rattle.form.specs.Held.{summary_of, Holds}
@@ -63,7 +63,7 @@ pub ruleset finds_turns = (finds_summarised, finds_stop, rules)
 
 -- ---- what a file's fragment is answered
 
-pub says_bad : (f bytes : List ℕ) (p : ℕ) → reading f ≡ Bad p → FragmentSays f bytes (reply_of (Err (BadFile p)))
+pub says_bad : (f bytes : List ℕ) (p : ℕ) → reading f ≡ faulty p → FragmentSays f bytes (reply_of (Err (BadFile p)))
 says_bad f bytes p e = (e, refl)
 
 -- what was found, with a refusal as the reply's own
@@ -78,7 +78,7 @@ answers_found f bytes sound (Err (NotATag p)) r = (sound, r, refl)
 answers_found f bytes sound (Err (Mismatch p)) r = (sound, r, refl)
 answers_found f bytes sound (Err (TooDeep p)) r = (sound, r, refl)
 
-module _ (f : List ℕ) (shape : Shape) (sound : reading f ≡ Sound shape) (lore : List ℕ) (taught : LoreOf f lore) where
+module _ (f : List ℕ) (shape : Shape) (sound : reading f ≡ Ok shape) (lore : List ℕ) (taught : LoreOf f lore) where
   pub taught_lore : IsLore most_states lore
   taught_lore = file_lore f lore (shape_sound f shape sound) taught
 

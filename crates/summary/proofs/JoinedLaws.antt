@@ -12,7 +12,7 @@ use Rattle.words.specs.Reader.{reduced, limit, join}
 use Rattle.words.proofs.LimitLaws.{Answers, limit_iff}
 use Rattle.pieces.specs.Pieces.{most_tags, pieces_long, piece_at, lifted, Counted}
 use Rattle.template.specs.Order.{IsSound, reading}
-use Rattle.template.specs.declared.Reading.TheVariants.{Sound, Bad}
+use Rattle.template.specs.Order.{faulty}
 use Rattle.template.specs.declared.Shape.{Shape}
 use Rattle.template.proofs.ShapeLaws.{shape_sound}
 use Rattle.form.specs.Held.{tag_count, summary_of, form_of, last_of, Holds}
@@ -45,7 +45,7 @@ holds_summary f s l m h =
 -- a refusal before anything is joined
 
 module _ (f : List ℕ) (left right : Summary) where
-  pub join_bad : (p : ℕ) → reading f ≡ Bad p → JoinSays f left right (reply_of (Err (BadFile p)))
+  pub join_bad : (p : ℕ) → reading f ≡ faulty p → JoinSays f left right (reply_of (Err (BadFile p)))
   join_bad p e = (e, refl)
 
   pub join_no_left : IsSound f → (SummaryUnder f left → ⊥) → JoinSays f left right (reply_of (Err NoSummary))
@@ -56,7 +56,7 @@ module _ (f : List ℕ) (left right : Summary) where
 
 -- what joining leaves
 
-module _ (f : List ℕ) (shape : Shape) (sound : reading f ≡ Sound shape) (lore : List ℕ) (taught : LoreOf f lore)
+module _ (f : List ℕ) (shape : Shape) (sound : reading f ≡ Ok shape) (lore : List ℕ) (taught : LoreOf f lore)
     (left right : Summary) (hl : SummaryUnder f left) (hr : SummaryUnder f right) (t : Result Counts Clash) (names values : List ℕ)
     (stepped : Stepped t names values (after_form lore left right)) where
   joined_limit : Answers most_tags (outcome_of f left right) (outcome t names values)

@@ -7,14 +7,14 @@ use mathlib.Core.Logic.{◌↔◌}
 use Prim.Native.Nat.{ℕ}
 use borrow.Author.Tests.{not-true, not-false}
 use Rattle.template.specs.Order.{reading}
-use Rattle.template.specs.declared.Reading.TheVariants.{Sound}
+use Rattle.std.specs.Prelude.{Ok}
 use Rattle.template.specs.declared.Shape.{Shape}
 use Rattle.template.proofs.ShapeLaws.{names_are, states_are}
 use Rattle.form.specs.declared.Summary.{Summary}
 use Rattle.summary.specs.Packing.{IsSummary}
 use Rattle.summary.specs.Joins.{SummaryUnder}
 
-module _ (f : List ℕ) (shape : Shape) (sound : reading f ≡ Sound shape) (q : ℕ) (h : q ≡ shape.states) where
+module _ (f : List ℕ) (shape : Shape) (sound : reading f ≡ Ok shape) (q : ℕ) (h : q ≡ shape.states) where
   -- a struct that was tested
   module _ (s : Summary) (t : Bool) (k : (t ≡ true) ↔ IsSummary shape.names q s) where
     tested : (t ≡ true) ↔ SummaryUnder f s

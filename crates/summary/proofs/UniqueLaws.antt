@@ -14,7 +14,7 @@ use Rattle.pieces.specs.declared.Piece.{Piece}
 use Rattle.pieces.specs.Pieces.{most_tags}
 use Rattle.template.specs.Layout.{name_count}
 use Rattle.template.specs.Order.{IsSound, reading}
-use Rattle.template.specs.declared.Reading.TheVariants.{Bad}
+use Rattle.template.specs.Order.{faulty}
 use Rattle.form.proofs.PackLaws.{pack_unique}
 use Rattle.reader.specs.Reads.{Found, whole, refused, no_tag, mismatch, too_many}
 use Rattle.reader.proofs.ReadsLaws.{reads_unique}
@@ -39,7 +39,7 @@ pub packs_unique : {s s' : Summary} {t : Stack Piece} {c : Piece} → Packs s t 
 packs_unique {s} {s'} p q =
     pack_unique s s' p.holds q.holds (p.form_is ∙ sym q.form_is) (p.last_is ∙ sym q.last_is)
 
-bad_unique : (f : List ℕ) (p q : ℕ) → reading f ≡ Bad p → reading f ≡ Bad q → p ≡ q
+bad_unique : (f : List ℕ) (p q : ℕ) → reading f ≡ faulty p → reading f ≡ faulty q → p ≡ q
 bad_unique f p q e d = cc (sym e ∙ d)
 
 -- ---- fragments
@@ -61,7 +61,7 @@ found_unique (refused too_many i) a a' s s' (e, p) (d, q) = (e ∙ sym d, p ∙ 
 module _ (f bytes : List ℕ) where
   abbrev pub FragmentCase : Result Unit FragmentRefusal → Summary → Type 0
   FragmentCase a s =
-      ((p : ℕ) × (reading f ≡ Bad p) × (a ≡ Err (fragment.BadFile p)) × (s ≡ zeros))
+      ((p : ℕ) × (reading f ≡ faulty p) × (a ≡ Err (fragment.BadFile p)) × (s ≡ zeros))
       ⊎ (IsSound f × ((found : Found Piece) × ReadUnder f bytes found × AnswersFound found a s))
 
   pub fragment_case : (a : Result Unit FragmentRefusal) (s : Summary) → FragmentAnswers f bytes a s → FragmentCase a s
@@ -108,7 +108,7 @@ module _ (f : List ℕ) (left right : Summary) where
 
   abbrev JoinCase : Result Unit JoinRefusal → Summary → Type 0
   JoinCase a s =
-      ((p : ℕ) × (reading f ≡ Bad p) × (a ≡ Err (joined.BadFile p)) × (s ≡ zeros))
+      ((p : ℕ) × (reading f ≡ faulty p) × (a ≡ Err (joined.BadFile p)) × (s ≡ zeros))
       ⊎ (IsSound f
       × ((NotBoth × (a ≡ Err joined.NoSummary) × (s ≡ zeros))
       ⊎ (SummaryUnder f left × SummaryUnder f right × AnswersOutcome (outcome_of f left right) a s)))

@@ -6,7 +6,7 @@ use Rattle.pieces.specs.declared.Piece.{Piece}
 use Rattle.pieces.specs.Pieces.{most_tags}
 use Rattle.template.specs.Layout.{name_count}
 use Rattle.template.specs.Order.{IsSound, reading}
-use Rattle.template.specs.declared.Reading.TheVariants.{Bad}
+use Rattle.template.specs.Order.{faulty}
 use Rattle.schema.specs.Schemas.{binoid_of}
 use Rattle.form.specs.declared.Summary.{Summary}
 use Rattle.reader.specs.declared.Stop.{Stop}
@@ -23,7 +23,7 @@ ReadUnder f bytes found = Reads (name_count f) (binoid_of f) most_tags bytes fou
 
 abbrev pub FragmentAnswers : List ℕ → List ℕ → Result Unit FragmentRefusal → Summary → Type 0
 FragmentAnswers f bytes (Ok _) s = IsSound f × ((t : Stack Piece) × (c : Piece) × ReadUnder f bytes (whole t c) × Packs s t c)
-FragmentAnswers f bytes (Err (BadFile p)) s = (reading f ≡ Bad p) × (s ≡ zeros)
+FragmentAnswers f bytes (Err (BadFile p)) s = (reading f ≡ faulty p) × (s ≡ zeros)
 FragmentAnswers f bytes (Err (NotATag p)) s = IsSound f × ReadUnder f bytes (refused no_tag p) × (s ≡ zeros)
 FragmentAnswers f bytes (Err (Mismatch p)) s = IsSound f × ReadUnder f bytes (refused mismatch p) × (s ≡ zeros)
 FragmentAnswers f bytes (Err (TooDeep p)) s = IsSound f × ReadUnder f bytes (refused too_many p) × (s ≡ zeros)

@@ -5,7 +5,7 @@ use Rattle.words.specs.Reduced.{Stack, tags, net}
 use Rattle.words.specs.Reader.{Outcome, reduced, differ, join}
 use Rattle.template.specs.Layout.{name_count, states}
 use Rattle.template.specs.Order.{IsSound, reading}
-use Rattle.template.specs.declared.Reading.TheVariants.{Bad}
+use Rattle.template.specs.Order.{faulty}
 use Rattle.pieces.specs.declared.Piece.{Piece}
 use Rattle.pieces.specs.Pieces.{most_tags}
 use Rattle.form.specs.Held.{form_of, last_of}
@@ -33,7 +33,7 @@ abbrev pub JoinAnswers : List ℕ → Summary → Summary → Result Unit JoinRe
 JoinAnswers f left right (Ok _) s =
     BothSummaries f left right
     × ((t : Stack Piece) × (c : Piece) × (outcome_of f left right ≡ reduced t c) × (tags t ≤ most_tags) × Packs s t c)
-JoinAnswers f left right (Err (joined.BadFile p)) s = (reading f ≡ Bad p) × (s ≡ zeros)
+JoinAnswers f left right (Err (joined.BadFile p)) s = (reading f ≡ faulty p) × (s ≡ zeros)
 JoinAnswers f left right (Err joined.NoSummary) s = IsSound f × (SummaryUnder f left → SummaryUnder f right → ⊥) × (s ≡ zeros)
 JoinAnswers f left right (Err joined.Mismatch) s =
     BothSummaries f left right × ((a b : ℕ) × (outcome_of f left right ≡ differ a b)) × (s ≡ zeros)
@@ -45,5 +45,5 @@ JoinSays f left right r = JoinAnswers f left right r.answer r.summary
 
 abbrev pub DepthSays : List ℕ → Summary → Result ℤ DepthRefusal → Type 0
 DepthSays f s (Ok z) = IsSound f × SummaryUnder f s × (z ≡ net (form_of s))
-DepthSays f s (Err (depth.BadFile p)) = reading f ≡ Bad p
+DepthSays f s (Err (depth.BadFile p)) = reading f ≡ faulty p
 DepthSays f s (Err depth.NoSummary) = IsSound f × (SummaryUnder f s → ⊥)

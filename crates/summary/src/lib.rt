@@ -7,7 +7,6 @@ ghost use Rattle.hedge.specs.Schema.{most_states};
 ghost use Rattle.lore.specs.Lore.{IsLore};
 ghost use Rattle.pieces.specs.Pieces.{most_tags, most_pieces, pieces, fits_in, is_none};
 ghost use Rattle.template.specs.Order.{reading};
-ghost use Rattle.template.specs.declared.Reading.TheVariants.{Sound};
 ghost use Rattle.reader.specs.Reads.{Reads};
 ghost use Rattle.summary.specs.Packing.{zeros, IsSummary, every, name_fits, piece_fits};
 ghost use Rattle.summary.specs.Replies.{stopped, clashed, reply_of};
@@ -217,7 +216,7 @@ fn join_summaries(
     left: form::Summary,
     right: form::Summary,
 ) -> Result<form::Summary, JoinRefusal>
-    requires file_value { reading file.now ≡ Sound shape }
+    requires file_value { reading file.now ≡ Ok shape }
     requires summary_under { SummaryUnder file.now left }
     requires summary_under_2 { SummaryUnder file.now right }
     ensures { JoinSays file.now left right (reply_of result) }

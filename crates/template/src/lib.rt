@@ -28,7 +28,7 @@ pub const SYMBOLS: u8 = 2;
 pub const LONG_SYMBOLS: u8 = 12;
 
 // A sound file's numbers: names, nonterminals and states, and how many entries each body has.
-#[derive(Clone, Copy, Debug, PartialEq, Eq)]
+#[derive(Clone, Copy, Debug, Default, PartialEq, Eq)]
 pub struct Shape {
     pub names: u8,
     pub nonterminals: u8,

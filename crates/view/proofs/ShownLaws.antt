@@ -12,8 +12,8 @@ use lib.ListN.{length, take, drop, drop_of_length-le, take-append-drop}
 use lib.Seq.{drop-drop}
 use Rattle.entries.specs.Tests.{first_fault}
 use Rattle.entries.specs.Entries.{rule_symbols}
-use Rattle.std.specs.Prelude.{Result, Ok, Err}
-use Rattle.entries.specs.Tests.{Tested, fault_at}
+use Rattle.std.specs.Prelude.{Ok, Err}
+use Rattle.entries.specs.Tests.{Tested}
 use Rattle.template.specs.declared.Shape.{Shape}
 use Rattle.template.specs.Layout.{rule_count, schema_count, ending_count, schema_start, ending_start, bodies_end, pick_part, part_of, template_rules}
 use Rattle.template.specs.Layout.{schema_rules, ending_states}
@@ -35,8 +35,8 @@ empty_part f at = none_picked (leb (at + 0) (length f))
 module _ (list : List ℕ → Shape → List ℕ) (held : List ℕ → List ℕ) (sound : (f : List ℕ) → list f (shape_of f) ≡ held f)
     (bad : (f : List ℕ) → list f none ≡ []) where
   shown_by : (f : List ℕ) (x : Tested) → list f (counted (verdict x (shape_of f))) ≡ of_sound (verdict x (shape_of f)) (held f)
-  shown_by f Nowhere = sound f
-  shown_by f (At p) = bad f
+  shown_by f (Ok u) = sound f
+  shown_by f (Err x) = bad f
 
   shown_held : (f : List ℕ) → list f (counted (reading f)) ≡ of_sound (reading f) (held f)
   unfolding reading_of

@@ -1,10 +1,8 @@
 -- The three lists that a view shows (Rules, section 4): parts of the lent file and no copies.
-use Rattle.std.specs.Prelude.{List, [], ℕ, ◌+◌, ◌*◌}
+use Rattle.std.specs.Prelude.{List, [], ℕ, ◌+◌, ◌*◌, Ok, Err}
 use Rattle.std.specs.Borrow.{Bor}
 use Rattle.template.specs.Layout.{first_body, part_of, template_rules, schema_rules, ending_states}
-use Rattle.template.specs.Order.{reading}
-use Rattle.template.specs.declared.Reading.{Reading}
-use Rattle.template.specs.declared.Reading.TheVariants.{Sound, Bad}
+use Rattle.template.specs.Order.{Reading, reading}
 use Rattle.template.specs.declared.Shape.{Shape}
 use Rattle.view.specs.declared.View.{View}
 
@@ -37,13 +35,13 @@ abbrev pub none : Shape
 none = record { names = 0; nonterminals = 0; states = 0; templates = 0; schema = 0; endings = 0 }
 
 abbrev pub counted : Reading → Shape
-counted (Sound s) = s
-counted (Bad p) = none
+counted (Ok s) = s
+counted (Err x) = none
 
 -- the list where the file is sound, nothing where it is bad
 abbrev pub of_sound : Reading → List ℕ → List ℕ
-of_sound (Sound s) xs = xs
-of_sound (Bad p) xs = []
+of_sound (Ok s) xs = xs
+of_sound (Err x) xs = []
 
 -- the three lists of a file
 abbrev pub templates_in : List ℕ → List ℕ

@@ -6,7 +6,7 @@ use mathlib.Core.List.{List}
 use Prim.Native.Nat.{ℕ, ◌<◌}
 use native.Mathlib.Omega.{arith}
 use Rattle.template.specs.Order.{reading}
-use Rattle.template.specs.declared.Reading.TheVariants.{Sound}
+use Rattle.std.specs.Prelude.{Ok}
 use Rattle.template.specs.declared.Shape.{Shape}
 use Rattle.template.proofs.ShapeLaws.{shape_sound}
 use Rattle.schema.specs.Schemas.{LoreOf}
@@ -26,7 +26,7 @@ use Rattle.rounds.proofs.rounds.Goals as goal
 
 -- the state at the loop's head, the walk from it, and the event that it met
 turn : (f lore t₀ t t' : List ℕ) (budget r prev n : ℕ) (w : Walk) (e : Event) {shape : Shape} {part : List ℕ}
-    → reading f ≡ Sound shape → LoreOf f lore → HasPage f → Lent f t₀ budget → AfterRound f lore t₀ t r prev n → r < budget
+    → reading f ≡ Ok shape → LoreOf f lore → HasPage f → Lent f t₀ budget → AfterRound f lore t₀ t r prev n → r < budget
     → part ≡ templates_by f shape → Walked lore part (book_of t n) w t' → Met w e → Turn f lore t₀ t t' budget r prev n w e
 turn f lore t₀ t t' budget r prev n w e {shape} {part} sound taught page lent state within is walked told =
     record {

@@ -1,25 +1,22 @@
--- The parts that are taken are the sound file's; what is taught from them is its lore. Assumes nothing.
-use Rattle.schema.proofs.TeachLaws.{teach_turns}
+-- The lists that the view shows are the sound file's; what is taught from them is its lore. Assumes nothing.
+use Rattle.schema.proofs.TeachLaws.{teach_few, teach_rules_below, teach_names_below, teach_ends_below, teach_taught}
 use Rattle.schema.proofs.teach.Goals as goal
-
-pub schema_of-rules-requires : goal.schema_of-rules-requires
-schema_of-rules-requires c = search teach_turns
-
-pub endings_of-endings-requires : goal.endings_of-endings-requires
-endings_of-endings-requires c = search teach_turns
-
-pub wide-requires : goal.wide-requires
-wide-requires c = search teach_turns
 
 pub teach-requires : goal.teach-requires
 teach-requires c =
+    let file = c.args.file.now in
+    let schema = rw c.of-view.ensures at c.schema.ensures in
+    let endings = rw c.of-view.ensures at c.endings.ensures in
     record {
-      states_le_most_states = search teach_turns;
-      rules_below = search teach_turns;
-      names_below = search teach_turns;
-      ends_below = search teach_turns;
-      lore_value = search teach_turns;
+      states_le_most_states = teach_few file c.args.shape c.requires.file_value _ c.from.ensures;
+      rules_below = teach_rules_below file c.args.shape c.requires.file_value _ schema;
+      names_below = teach_names_below file c.args.shape c.requires.file_value _ schema;
+      ends_below = teach_ends_below file c.args.shape c.requires.file_value _ endings;
+      lore_value = c.requires.lore_value;
     }
 
 pub returns : goal.returns
-returns c = search teach_turns
+returns c =
+    let schema = rw c.of-view.ensures at c.schema.ensures in
+    let endings = rw c.of-view.ensures at c.endings.ensures in
+    teach_taught c.args.file.now c.args.shape c.requires.file_value _ c.from.ensures _ _ schema endings _ c.teach.ensures
