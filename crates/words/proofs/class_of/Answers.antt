@@ -6,14 +6,5 @@ use Rattle.words.proofs.class_of.Goals as goal
 pub returns-then-byte-names : goal.returns-then-byte-names
 returns-then-byte-names c = search classes
 
-pub returns-then-byte-lt32 : goal.returns-then-byte-lt32
-returns-then-byte-lt32 c = search classes
-
 pub returns-then-name-names : goal.returns-then-name-names
 returns-then-name-names c = search classes
-
-pub returns-else-name-names : goal.returns-else-name-names
-returns-else-name-names c = search classes
-
-pub returns-else-byte-lt64 : goal.returns-else-byte-lt64
-returns-else-byte-lt64 c = search classes
