@@ -50,7 +50,7 @@ pub past_unspelled : {A b : ℕ} → 64 ≤ b → (t : Tag) → Spells A b t →
 past_unspelled l (start a) s = let (e, (f, g)) = spells_start s in omega arith
 past_unspelled l (end a) s = let (e, (f, g)) = spells_end s in omega arith
 
-pub ruleset classes = (start_spelled, end_spelled, low_unspelled, high_unspelled, past_unspelled, rules)
+pub ruleset classes = (start_spelled, end_spelled, rules)
 
 -- a byte has one tag and one class
 

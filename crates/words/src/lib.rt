@@ -18,17 +18,9 @@ pub enum Tag {
 pub fn class_of(names: u8, byte: u8) -> Option<Tag>
     ensures { Classed names byte result }
 {
-    if byte < 32 {
-        if byte < names {
-            return Some(Tag::Start(byte));
-        }
-        return None;
+    match byte {
+        0..32 if byte < names => Some(Tag::Start(byte)),
+        32..64 if byte - 32 < names => Some(Tag::End(byte - 32)),
+        _ => None,
     }
-    if byte < 64 {
-        let name = byte - 32;
-        if name < names {
-            return Some(Tag::End(name));
-        }
-    }
-    None
 }
