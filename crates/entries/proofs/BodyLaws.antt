@@ -1,6 +1,6 @@
 -- The entries of a body from a place on: none left, one further, and the room that they take in the file.
 -- Each law opens the definition once, where the number of entries left is zero or one more than another. Assumes nothing.
-use mathlib.Core.Path.{◌≡◌, refl, sym}
+use mathlib.Core.Path.{◌≡◌}
 use mathlib.Core.List.{List, ◌++◌}
 use Prim.Native.Nat.{ℕ, zero, suc, ◌+◌, ◌*◌, ◌-◌, ◌≤◌, ◌<◌}
 use native.Mathlib.Nat.{mul-suc, mul-le-mul_left}

@@ -8,7 +8,7 @@ use Rattle.hedge.specs.Schema.{most_states, RulesBelow, EndsBelow}
 use Rattle.entries.specs.Entries.{rule_symbols, rule_width}
 use Rattle.template.specs.Layout.{name_count, states, part_of, schema_rules, ending_states, schema_rules_of, ending_states_of}
 use Rattle.template.specs.Order.{SoundOf, IsSound, shape_of, reading_of, reading, number}
-use Rattle.std.specs.Prelude.{Ok, Err}
+use Rattle.std.specs.Prelude.{Ok}
 use Rattle.template.specs.Order.{Reading, faulty}
 use Rattle.template.specs.declared.Shape.{Shape}
 use Rattle.template.proofs.SoundLaws.{SoundFile, reading_sound, sound_reading_of, sound_file}

@@ -1,9 +1,8 @@
 -- The first fault of all tests is that of those left: one that fails leaves with its fault, and behind one that holds the next decides.
 -- Assumes nothing.
-use Rattle.std.proofs.Common.{◌≡◌, ◌+◌, ◌∙◌, sym, drop, add-one}
+use Rattle.std.proofs.Common.{◌+◌, ◌∙◌, sym, drop, add-one}
 use Rattle.std.proofs.Math.Seq.{drop-cons}
 use lib.ListN.{drop_of_length-le}
-use Rattle.entries.specs.Tests.{first_fault}
 use Rattle.entries.proofs.OrderLaws.{passed_on, part_stays, part_passes, first_none}
 use Rattle.entries.proofs.first_fault.Goals as goal
 

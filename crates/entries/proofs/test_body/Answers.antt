@@ -1,6 +1,6 @@
 -- The first fault of the whole body is that of the entries left, k entries on: an entry's fault stays, and without one the next
 -- entry decides. Each entry fits into the file, since all do. Assumes nothing.
-use Rattle.std.proofs.Common.{◌≡◌, ◌+◌, ◌*◌, ◌≤◌, length, refl, ◌∙◌, sym, arith, rules}
+use Rattle.std.proofs.Common.{refl, ◌∙◌, sym, rules}
 use Rattle.entries.specs.Entries.{width}
 use Rattle.entries.proofs.OrderLaws.{passed_on, part_stays, part_passes}
 use Rattle.entries.proofs.BodyLaws.{behind_first, body_all, body_end, body_next, room_next}

@@ -1,5 +1,5 @@
 -- The fields' fault stays; without one the ascent is tested, at the body's width. Assumes nothing.
-use Rattle.entries.specs.Entries.{field_tests, entry_tests}
+use Rattle.entries.specs.Entries.{entry_tests}
 use Rattle.entries.proofs.OrderLaws.{passed_on, first_stays, first_passes}
 use Rattle.entries.proofs.test_entry.Goals as goal
 

@@ -1,5 +1,5 @@
 -- Where the part lies within the file, what `get` finds is the part; else both are empty. Assumes nothing.
-use Rattle.std.proofs.Common.{◌≡◌, refl, ap, Bor, List, ℕ}
+use Rattle.std.proofs.Common.{refl}
 use Rattle.template.proofs.PartLaws.{part_got}
 use Rattle.template.proofs.part.Goals as goal
 

@@ -1,8 +1,7 @@
 -- Head, contents, bodies: a fault stays, and without one the next list decides. A head without a fault makes the contents
 -- readable, contents without one say that the bodies end where the file does. Assumes nothing.
-use Rattle.std.proofs.Common.{List, ℕ, ◌≡◌, ◌++◌, ◌∙◌, sym, Ok, Err, ap, arith}
+use Rattle.std.proofs.Common.{List, ℕ, ◌≡◌, ◌∙◌, sym, Ok, arith}
 use Rattle.entries.specs.Tests.{Tested, first_fault}
-use Rattle.entries.specs.declared.Test.{Test}
 use Rattle.template.specs.Order.{head_tests, contents_tests, bodies, tests}
 use Rattle.entries.proofs.OrderLaws.{passed_on, first_stays, first_passes}
 use Rattle.template.proofs.FileLaws.{head_length, contents_length, answers_bad, answers_sound}

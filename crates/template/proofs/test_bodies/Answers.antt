@@ -1,10 +1,10 @@
 -- The shape's numbers are the file's, so each body fits into the file and its fault is that of the file's own body: a fault stays,
 -- and without one the next body decides. Assumes nothing.
-use Rattle.std.proofs.Common.{◌≡◌, ◌+◌, ◌*◌, ◌≤◌, ℕ, List, length, ◌∙◌, sym, ap, refl, arith}
+use Rattle.std.proofs.Common.{◌≡◌, ◌+◌, ◌*◌, ℕ, List, ◌∙◌, ap, refl, arith}
 use Rattle.entries.specs.Entries.{width, rule_width}
 use Rattle.entries.specs.declared.Body.TheVariants.{Templates, Schema, Endings}
 use Rattle.template.specs.declared.Shape.{Shape}
-use Rattle.template.specs.Layout.{first_body, rule_count, schema_count, ending_count, schema_start_of, ending_start_of, bodies_end_of}
+use Rattle.template.specs.Layout.{first_body, schema_start_of}
 use Rattle.template.specs.Order.{bodies, shape_of}
 use Rattle.entries.proofs.OrderLaws.{passed_on, first_stays, first_passes}
 use Rattle.template.proofs.FileLaws.{template_tests, schema_tests, body_of}
