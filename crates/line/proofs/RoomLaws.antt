@@ -13,7 +13,8 @@ use lib.Seq.{get_or-take, length-take-le, take_all}
 use borrow.Author.Tests.{leb-true, le-leb, ne_eqb}
 use Rattle.numbers.proofs.TestLaws.{and_out}
 use Rattle.hedge.specs.Schema.{most_states}
-use Rattle.entries.specs.Tests.{Test, test, first_fault, or_then}
+use Rattle.entries.specs.declared.Test.{Test}
+use Rattle.entries.specs.Tests.{test, first_fault, or_then}
 use Rattle.entries.specs.Entries.{byte_at, rule_symbols}
 use Rattle.std.specs.Prelude.{Result, Ok, Err}
 use Rattle.entries.specs.Tests.{Tested, fault_at}
@@ -42,7 +43,7 @@ start_tests f =
     ∷ []
 
 -- where those pass, the bodies end before a file that is too long does
-end_before : (f : List ℕ) → first_fault (head_tests f) ≡ Nowhere → first_fault (start_tests f) ≡ Nowhere → bodies_end f ≤ longest_file
+end_before : (f : List ℕ) → first_fault (head_tests f) ≡ Ok tt → first_fault (start_tests f) ≡ Ok tt → bodies_end f ≤ longest_file
 unfolding head_tests start_tests
 end_before f head start =
     let h = ok_holds (head_tests f) head in
@@ -67,19 +68,19 @@ unfolding tests
 tests_split f =
     first_append (head_tests f) (contents_tests rule_symbols f ++ bodies rule_symbols f) ∙ rw (contents_split f, first_append (start_tests f) (last_tests f))
 
-total_fails : (f : List ℕ) → eqb (length f) (bodies_end f) ≡ false → first_fault (last_tests f) ≡ At 0
+total_fails : (f : List ℕ) → eqb (length f) (bodies_end f) ≡ false → first_fault (last_tests f) ≡ fault_at 0
 unfolding first_fault
 total_fails f e = rw e
 
 -- a fault of the head, of the contents, or else the total length
 abbrev long_fault : List ℕ → Tested
-long_fault f = or_then (first_fault (head_tests f)) (or_then (first_fault (start_tests f)) (At 0))
+long_fault f = or_then (first_fault (head_tests f)) (or_then (first_fault (start_tests f)) (fault_at 0))
 
 last_fault : (f : List ℕ) → longest_file < length f → (x y : Tested) → first_fault (head_tests f) ≡ x → first_fault (start_tests f) ≡ y
-    → or_then x (or_then y (first_fault (last_tests f))) ≡ or_then x (or_then y (At 0))
-last_fault f long (At p) y e d = refl
-last_fault f long Nowhere (At p) e d = refl
-last_fault f long Nowhere Nowhere e d =
+    → or_then x (or_then y (first_fault (last_tests f))) ≡ or_then x (or_then y (fault_at 0))
+last_fault f long (Err x) y e d = refl
+last_fault f long (Ok u) (Err x) e d = refl
+last_fault f long (Ok u) (Ok v) e d =
     let far = end_before f e d in
     total_fails f (ne_eqb (length f) (bodies_end f) (λ same. omega (arith, same, far, long)))
 

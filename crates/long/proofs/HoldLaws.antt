@@ -96,7 +96,7 @@ module _ (f : List ℕ) (s : SoundFileOf long_symbols f) (i t : ℕ) (h : i < ru
       ]
 
   pub part_passes : (Q : ℕ)
-      → first_fault (field_tests (Templates rule_symbols) (name_count f) all Q (part (nonterminals f) rules i t) 0) ≡ Nowhere
+      → first_fault (field_tests (Templates rule_symbols) (name_count f) all Q (part (nonterminals f) rules i t) 0) ≡ Ok tt
   unfolding field_tests symbol_tests first_fault part
   part_passes Q =
       let left = lt-ltb (rest_of (nonterminals f) rules i t) all (left_below rules (nonterminals f) i t (long_left f s i h) counted k) in

@@ -64,7 +64,7 @@ entry_wide Endings = omega arith
 -- n entries, each of which passes its field tests, and which ascend
 pub record BodyHolds (b : Body) (A N Q n : ℕ) (list : List ℕ) : Type 0 where
   pub whole : length list ≡ width b * n
-  pub fields_pass : (e : List ℕ) → Entry (width b) list e → first_fault (field_tests b A N Q e 0) ≡ Nowhere
+  pub fields_pass : (e : List ℕ) → Entry (width b) list e → first_fault (field_tests b A N Q e 0) ≡ Ok tt
   pub ascending : EntriesAscend (width b) n list
 
 -- the bytes of an entry taken out of a list are the list's
@@ -82,15 +82,15 @@ module _ (b : Body) (A N Q : ℕ) (f : List ℕ) (first n : ℕ) (fit : first + 
   entry_is i h = part_entry f first (width b * n) (width b) i fit (mul-le-mul_left (width b) h)
 
   -- from the list to the file
-  pub holds_body : BodyHolds b A N Q n list → first_fault (body_tests b A N Q f first first n) ≡ Nowhere
+  pub holds_body : BodyHolds b A N Q n list → first_fault (body_tests b A N Q f first first n) ≡ Ok tt
   holds_body holds =
       body_passes b A N Q f first first n (λ i h. entry_passes b A N Q f first (first + width b * i) (fields i h) (ascent i h))
     where
-      fields : (i : ℕ) → i < n → first_fault (field_tests b A N Q f (first + width b * i)) ≡ Nowhere
+      fields : (i : ℕ) → i < n → first_fault (field_tests b A N Q f (first + width b * i)) ≡ Ok tt
       fields i h =
           fields_moved A N Q (take (width b) (drop (first + width b * i) f)) f 0 (first + width b * i) b
           (λ j k. sym (entry_byte (width b) (first + width b * i) f j k))
-          (subst (λ (e : List ℕ). first_fault (field_tests b A N Q e 0) ≡ Nowhere) (entry_is i h)
+          (subst (λ (e : List ℕ). first_fault (field_tests b A N Q e 0) ≡ Ok tt) (entry_is i h)
           (holds.fields_pass (entry (width b) list i) (entry_numbered (width b) n list list_whole (entry_wide b) i h)))
 
       ascent : (i : ℕ) → i < n → ascends (width b) f first (first + width b * i) ≡ true
@@ -101,7 +101,7 @@ module _ (b : Body) (A N Q : ℕ) (f : List ℕ) (first n : ℕ) (fit : first + 
 
 -- from the file, by its own numbers, to the list
 module _ (b : Body) (f : List ℕ) (first n : ℕ) (fit : first + width b * n ≤ length f) where
-  pub body_holds : first_fault (body b f first n) ≡ Nowhere
+  pub body_holds : first_fault (body b f first n) ≡ Ok tt
       → BodyHolds b (name_count f) (nonterminals f) (states f) n (part_of f first (width b * n))
   body_holds passed =
       record {
@@ -114,9 +114,9 @@ module _ (b : Body) (f : List ℕ) (first n : ℕ) (fit : first + width b * n �
       whole = part_length f first (width b * n) fit
 
       fields : (e : List ℕ) → (i : ℕ) × (i < n) × (e ≡ entry (width b) (part_of f first (width b * n)) i)
-          → first_fault (field_tests b (name_count f) (nonterminals f) (states f) e 0) ≡ Nowhere
+          → first_fault (field_tests b (name_count f) (nonterminals f) (states f) e 0) ≡ Ok tt
       fields e (i, h, is) =
-          subst (λ (x : List ℕ). first_fault (field_tests b (name_count f) (nonterminals f) (states f) x 0) ≡ Nowhere)
+          subst (λ (x : List ℕ). first_fault (field_tests b (name_count f) (nonterminals f) (states f) x 0) ≡ Ok tt)
           (sym (is ∙ entry_is b (name_count f) (nonterminals f) (states f) f first n fit i h))
           (fields_moved (name_count f) (nonterminals f) (states f) f (take (width b) (drop (first + width b * i) f)) (first + width b * i) 0 b
           (entry_byte (width b) (first + width b * i) f)

@@ -10,7 +10,8 @@ use native.Mathlib.Omega.{arith}
 use borrow.Author.Tests.{le-leb}
 use lib.Dec.{leb}
 use lib.ListN.{take, drop}
-use Rattle.entries.specs.Tests.{Test, test, first_fault}
+use Rattle.entries.specs.declared.Test.{Test}
+use Rattle.entries.specs.Tests.{test, first_fault}
 use Rattle.entries.specs.Entries.{byte_at, symbol_tests, field_tests, width, precedes, ascends, entry_tests, body_tests}
 use Rattle.std.specs.Prelude.{Result, Ok, Err}
 use Rattle.entries.specs.Tests.{Tested, fault_at}
@@ -26,7 +27,7 @@ answers = map (λ (t : Test). t.holds)
 cons_same : (a b : Bool) (xs ys : List Bool) → a ∷ xs ≡ b ∷ ys → (a ≡ b) × (xs ≡ ys)
 cons_same a b xs ys e = (cc, cc)
 
-alike : (ts us : List Test) → answers ts ≡ answers us → first_fault ts ≡ Nowhere → first_fault us ≡ Nowhere
+alike : (ts us : List Test) → answers ts ≡ answers us → first_fault ts ≡ Ok tt → first_fault us ≡ Ok tt
 unfolding first_fault
 alike [] [] e h = h
 alike [] (u ∷ us) e h = cc
@@ -67,20 +68,20 @@ module _ (A N Q : ℕ) (f g : List ℕ) (at to : ℕ) where
       rw first
 
   pub fields_moved : (b : Body) → ((j : ℕ) → j < width b → byte_at f (at + j) ≡ byte_at g (to + j))
-      → first_fault (field_tests b A N Q f at) ≡ Nowhere → first_fault (field_tests b A N Q g to) ≡ Nowhere
+      → first_fault (field_tests b A N Q f at) ≡ Ok tt → first_fault (field_tests b A N Q g to) ≡ Ok tt
   fields_moved b same = alike (field_tests b A N Q f at) (field_tests b A N Q g to) (fields_alike b same)
 
 -- ---- from entries to the body
 
 module _ (b : Body) (A N Q : ℕ) (f : List ℕ) (first : ℕ) where
-  pub entry_passes : (at : ℕ) → first_fault (field_tests b A N Q f at) ≡ Nowhere → ascends (width b) f first at ≡ true
-      → first_fault (entry_tests b A N Q f first at) ≡ Nowhere
+  pub entry_passes : (at : ℕ) → first_fault (field_tests b A N Q f at) ≡ Ok tt → ascends (width b) f first at ≡ true
+      → first_fault (entry_tests b A N Q f first at) ≡ Ok tt
   unfolding entry_tests first_fault
   entry_passes at fields ascent =
       ok_append (field_tests b A N Q f at) (test (ascends (width b) f first at) at ∷ []) fields (rw ascent)
 
-  pub body_passes : (at n : ℕ) → ((i : ℕ) → i < n → first_fault (entry_tests b A N Q f first (at + width b * i)) ≡ Nowhere)
-      → first_fault (body_tests b A N Q f first at n) ≡ Nowhere
+  pub body_passes : (at n : ℕ) → ((i : ℕ) → i < n → first_fault (entry_tests b A N Q f first (at + width b * i)) ≡ Ok tt)
+      → first_fault (body_tests b A N Q f first at n) ≡ Ok tt
   unfolding body_tests first_fault
   body_passes at zero each = refl
   body_passes at (suc n) each =
@@ -89,7 +90,7 @@ module _ (b : Body) (A N Q : ℕ) (f : List ℕ) (first : ℕ) where
       (rw none at (each 0 (omega arith)))
       (body_passes (at + width b) n (λ i h.
       let p : at + width b * suc i ≡ at + width b + width b * i = omega arith in
-      subst (λ (q : ℕ). first_fault (entry_tests b A N Q f first q) ≡ Nowhere) p (each (suc i) (omega arith))))
+      subst (λ (q : ℕ). first_fault (entry_tests b A N Q f first q) ≡ Ok tt) p (each (suc i) (omega arith))))
 
   -- an entry ascends: it is the first, or the one before it precedes it
   pub first_ascends : ascends (width b) f first (first + width b * 0) ≡ true
