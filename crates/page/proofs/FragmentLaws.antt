@@ -22,7 +22,7 @@ use Rattle.schema.specs.Schemas.{binoid_of}
 use Rattle.summary.specs.Fragments.{FragmentSays}
 use Rattle.schema.proofs.SchemaLaws.{laws_of}
 use Rattle.template.proofs.ShapeLaws.{sound_not_bad}
-use Rattle.summary.proofs.UniqueLaws.{AnswersFound, FragmentCase, fragment_case}
+use Rattle.summary.proofs.UniqueLaws.{bad_unique, AnswersFound, FragmentCase, fragment_case}
 use Rattle.page.specs.declared.PageRefusal.{PageRefusal}
 use Rattle.page.specs.declared.PageRefusal.TheVariants as page
 use Rattle.page.specs.Pages.{PageSays, tested}
@@ -56,7 +56,7 @@ module _ (f bytes : List ℕ) where
 
   case_fragment : (p : Result Unit PageRefusal) (a : Result Unit FragmentRefusal) (s : Summary) → PageCase f bytes p → FragmentCase f bytes a s
       → a ≡ fragment_answer_of p
-  case_fragment p a s (inl (i, e, h)) (inl (j, d, k, z)) = k ∙ ap (λ i. Err (fragment.BadFile i)) (cc (sym d ∙ e)) ∙ sym (ap fragment_answer_of h)
+  case_fragment p a s (inl (i, e, h)) (inl (j, d, k, z)) = k ∙ ap (λ i. Err (fragment.BadFile i)) (bad_unique f j i d e) ∙ sym (ap fragment_answer_of h)
   case_fragment p a s (inl (i, e, h)) (inr (sound, x)) = absurd (sound_not_bad f i sound e)
   case_fragment p a s (inr (sound, x)) (inl (i, e, h, z)) = absurd (sound_not_bad f i sound e)
   case_fragment p a s (inr (sound, (x, r, h))) (inr (_, (y, t, k))) =

@@ -11,7 +11,7 @@ use Rattle.pieces.specs.declared.Piece.{Piece}
 use Rattle.pieces.specs.Pieces.{most_tags, pieces}
 use Rattle.template.specs.Layout.{name_count}
 use Rattle.template.specs.Order.{IsSound}
-use Rattle.template.proofs.ShapeLaws.{read_is, bad_at}
+use Rattle.template.proofs.ShapeLaws.{read_is}
 use Rattle.form.specs.Held.{tag_count, form_of, last_of, Holds}
 use Rattle.form.specs.Endings.{ending_of}
 use Rattle.form.specs.declared.Summary.{Summary}
@@ -71,4 +71,4 @@ module _ (f bytes : List ℕ) (r : Result Summary Stop) (says : FragmentSays f b
   pub stopped_page : (e : Stop) → r ≡ Err e → PageSays f bytes (Err (stopped e))
   stopped_page e d = stop_says f bytes e (rw d at says)
 
-pub ruleset page_turns = (read_is, bad_at, taught_lore, says_found, summarised_holds, summarised_page, stopped_page, rules)
+pub ruleset page_turns = (read_is, taught_lore, says_found, summarised_holds, summarised_page, stopped_page, rules)

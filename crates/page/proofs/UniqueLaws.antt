@@ -11,8 +11,7 @@ use Rattle.hedge.specs.Schema.{Valid}
 use Rattle.pieces.specs.declared.Piece.{Piece}
 use Rattle.pieces.specs.Pieces.{most_tags}
 use Rattle.template.specs.Layout.{name_count}
-use Rattle.template.specs.Order.{IsSound, reading}
-use Rattle.template.specs.Order.{faulty}
+use Rattle.template.specs.Order.{IsSound, reading, faulty}
 use Rattle.form.specs.declared.Flaw.{Flaw}
 use Rattle.form.specs.declared.Flaw.TheVariants as flaw
 use Rattle.reader.specs.Reads.{Found, whole, refused, no_tag, mismatch, too_many, Spelled, reads_all}
@@ -22,6 +21,7 @@ use Rattle.schema.specs.Schemas.{schema_of, binoid_of}
 use Rattle.summary.specs.Fragments.{ReadUnder}
 use Rattle.schema.proofs.SchemaLaws.{laws_of, Means, means_unique}
 use Rattle.template.proofs.ShapeLaws.{sound_not_bad}
+use Rattle.summary.proofs.UniqueLaws.{bad_unique}
 use Rattle.page.specs.declared.PageRefusal.{PageRefusal}
 use Rattle.page.specs.declared.PageRefusal.TheVariants as page
 use Rattle.page.specs.Pages.{PageSays, ReadWhole, tested}
@@ -73,7 +73,7 @@ module _ (f bytes : List ℕ) where
   -- ---- one reply
 
   page_case_unique : (p q : Result Unit PageRefusal) → PageCase p → PageCase q → p ≡ q
-  page_case_unique p q (inl (i, e, h)) (inl (j, d, k)) = h ∙ ap (λ i. Err (page.BadFile i)) (cc (sym e ∙ d)) ∙ sym k
+  page_case_unique p q (inl (i, e, h)) (inl (j, d, k)) = h ∙ ap (λ i. Err (page.BadFile i)) (bad_unique f i j e d) ∙ sym k
   page_case_unique p q (inl (i, e, h)) (inr (sound, x)) = absurd (sound_not_bad f i sound e)
   page_case_unique p q (inr (sound, x)) (inl (i, e, h)) = absurd (sound_not_bad f i sound e)
   page_case_unique p q (inr (sound, (x, r, h))) (inr (_, (y, t, k))) =

@@ -7,8 +7,7 @@ use Rattle.words.specs.Balance.{Balanced}
 use Rattle.hedge.specs.Schema.{Valid as IsValid}
 use Rattle.pieces.specs.Pieces.{most_tags}
 use Rattle.template.specs.Layout.{name_count}
-use Rattle.template.specs.Order.{IsSound, reading}
-use Rattle.template.specs.Order.{faulty}
+use Rattle.template.specs.Order.{IsSound, reading, faulty}
 use Rattle.reader.specs.Reads.{Spelled, AllReadable, refused, no_tag, mismatch, too_many}
 use Rattle.schema.specs.Schemas.{schema_of, binoid_of}
 use Rattle.summary.specs.Fragments.{ReadUnder}

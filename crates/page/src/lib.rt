@@ -1,10 +1,11 @@
 // The page reader: reads a fragment, and then puts it to the two tests of a whole page. Any file and any bytes may be lent.
 #![tactic(auto)]
 
-ghost use Rattle.std.specs.Prelude.{◌≡◌};
+ghost use Rattle.std.specs.Prelude.{◌≡◌, Ok};
 ghost use Rattle.template.specs.Order.{reading};
 ghost use Rattle.form.specs.Held.{form_of, last_of, Holds};
 ghost use Rattle.form.specs.Endings.{ending_of};
+ghost use Rattle.page.specs.declared.PageRefusal.TheVariants.{BadFile};
 ghost use Rattle.page.specs.Pages.{PageSays, stopped, flawed, tested, answer, number};
 
 // Why a page is not valid, with the place of the fault.
@@ -16,6 +17,14 @@ pub enum PageRefusal {
     TooDeep(usize),
     Unmatched,
     NotDerived,
+}
+
+impl From<entries::Fault> for PageRefusal {
+    ghost from_gives = { λ fault r. r ≡ BadFile fault.place };
+
+    fn from(fault: entries::Fault) -> PageRefusal {
+        PageRefusal::BadFile(fault.place)
+    }
 }
 
 impl From<reader::Stop> for PageRefusal {
@@ -68,10 +77,7 @@ fn read_under(file: &[u8], shape: template::Shape, bytes: &[u8]) -> Result<(), P
 pub fn read(file: &[u8], bytes: &[u8]) -> Result<(), PageRefusal>
     ensures { PageSays file.now bytes.now result }
 {
-    let r = template::read(file);
-    let template::Reading::Sound(shape) = r else {
-        return Err(PageRefusal::BadFile(template::place(r)));
-    };
+    let shape = template::read(file)?;
     read_under(file, shape, bytes)
 }
 

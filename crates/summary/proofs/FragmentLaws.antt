@@ -12,8 +12,7 @@ use Rattle.lore.specs.Lore.{IsLore}
 use Rattle.pieces.specs.declared.Piece.{Piece}
 use Rattle.pieces.specs.Pieces.{most_tags, pieces_long, piece_at, put_piece, lifted, pieces, Counted}
 use Rattle.pieces.proofs.PieceLaws.{piece_same}
-use Rattle.template.specs.Order.{IsSound, reading}
-use Rattle.template.specs.Order.{faulty}
+use Rattle.template.specs.Order.{IsSound, reading, faulty}
 use Rattle.template.specs.declared.Shape.{Shape}
 use Rattle.template.proofs.ShapeLaws.{read_is, shape_sound, names_are}
 use Rattle.form.specs.Held.{summary_of, Holds}

@@ -11,8 +11,7 @@ use Rattle.std.specs.Prelude.{Result, Ok, Err}
 use Rattle.words.specs.Reader.{reduced, limit, join}
 use Rattle.words.proofs.LimitLaws.{Answers, limit_iff}
 use Rattle.pieces.specs.Pieces.{most_tags, pieces_long, piece_at, lifted, Counted}
-use Rattle.template.specs.Order.{IsSound, reading}
-use Rattle.template.specs.Order.{faulty}
+use Rattle.template.specs.Order.{IsSound, reading, faulty}
 use Rattle.template.specs.declared.Shape.{Shape}
 use Rattle.template.proofs.ShapeLaws.{shape_sound}
 use Rattle.form.specs.Held.{tag_count, summary_of, form_of, last_of, Holds}

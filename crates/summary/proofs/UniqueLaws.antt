@@ -13,8 +13,7 @@ use Rattle.words.specs.Reader.{Outcome, reduced, differ}
 use Rattle.pieces.specs.declared.Piece.{Piece}
 use Rattle.pieces.specs.Pieces.{most_tags}
 use Rattle.template.specs.Layout.{name_count}
-use Rattle.template.specs.Order.{IsSound, reading}
-use Rattle.template.specs.Order.{faulty}
+use Rattle.template.specs.Order.{IsSound, Reading, reading, faulty, number}
 use Rattle.form.proofs.PackLaws.{pack_unique}
 use Rattle.reader.specs.Reads.{Found, whole, refused, no_tag, mismatch, too_many}
 use Rattle.reader.proofs.ReadsLaws.{reads_unique}
@@ -39,8 +38,8 @@ pub packs_unique : {s s' : Summary} {t : Stack Piece} {c : Piece} → Packs s t 
 packs_unique {s} {s'} p q =
     pack_unique s s' p.holds q.holds (p.form_is ∙ sym q.form_is) (p.last_is ∙ sym q.last_is)
 
-bad_unique : (f : List ℕ) (p q : ℕ) → reading f ≡ faulty p → reading f ≡ faulty q → p ≡ q
-bad_unique f p q e d = cc (sym e ∙ d)
+pub bad_unique : (f : List ℕ) (p q : ℕ) → reading f ≡ faulty p → reading f ≡ faulty q → p ≡ q
+bad_unique f p q e d = ap (λ (r : Reading). number r) (sym e ∙ d)
 
 -- ---- fragments
 

@@ -5,8 +5,7 @@ use Rattle.words.specs.Reduced.{Stack}
 use Rattle.pieces.specs.declared.Piece.{Piece}
 use Rattle.pieces.specs.Pieces.{most_tags}
 use Rattle.template.specs.Layout.{name_count}
-use Rattle.template.specs.Order.{IsSound, reading}
-use Rattle.template.specs.Order.{faulty}
+use Rattle.template.specs.Order.{IsSound, reading, faulty}
 use Rattle.schema.specs.Schemas.{binoid_of}
 use Rattle.form.specs.declared.Summary.{Summary}
 use Rattle.reader.specs.declared.Stop.{Stop}

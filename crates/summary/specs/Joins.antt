@@ -4,8 +4,7 @@ use Rattle.std.specs.Prelude.{◌≡◌, List, ℕ, ◌≤◌, ◌<◌, ℤ, Res
 use Rattle.words.specs.Reduced.{Stack, tags, net}
 use Rattle.words.specs.Reader.{Outcome, reduced, differ, join}
 use Rattle.template.specs.Layout.{name_count, states}
-use Rattle.template.specs.Order.{IsSound, reading}
-use Rattle.template.specs.Order.{faulty}
+use Rattle.template.specs.Order.{IsSound, reading, faulty}
 use Rattle.pieces.specs.declared.Piece.{Piece}
 use Rattle.pieces.specs.Pieces.{most_tags}
 use Rattle.form.specs.Held.{form_of, last_of}

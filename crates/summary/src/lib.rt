@@ -2,12 +2,15 @@
 // looks at them first, in the order of refusals (Rules, section 9).
 #![tactic(auto)]
 
-ghost use Rattle.std.specs.Prelude.{◌≡◌, true, cond, ◌↔◌, ◌+◌, ◌≤◌, ◌<◌, eqb, ltb, pos, ◌-ℤ◌, length};
+ghost use Rattle.std.specs.Prelude.{◌≡◌, true, cond, ◌↔◌, ◌+◌, ◌≤◌, ◌<◌, eqb, ltb, pos, ◌-ℤ◌, length, Ok};
 ghost use Rattle.hedge.specs.Schema.{most_states};
 ghost use Rattle.lore.specs.Lore.{IsLore};
 ghost use Rattle.pieces.specs.Pieces.{most_tags, most_pieces, pieces, fits_in, is_none};
 ghost use Rattle.template.specs.Order.{reading};
 ghost use Rattle.reader.specs.Reads.{Reads};
+ghost use Rattle.summary.specs.declared.FragmentRefusal.TheVariants as fragment;
+ghost use Rattle.summary.specs.declared.JoinRefusal.TheVariants as joined;
+ghost use Rattle.summary.specs.declared.DepthRefusal.TheVariants as depth;
 ghost use Rattle.summary.specs.Packing.{zeros, IsSummary, every, name_fits, piece_fits};
 ghost use Rattle.summary.specs.Replies.{stopped, clashed, reply_of};
 ghost use Rattle.summary.specs.Fragments.{FragmentSays, FragmentFinds};
@@ -49,6 +52,30 @@ pub struct Reply<E> {
 pub type FragmentReply = Reply<FragmentRefusal>;
 
 pub type JoinReply = Reply<JoinRefusal>;
+
+impl From<entries::Fault> for FragmentRefusal {
+    ghost from_gives = { λ fault r. r ≡ fragment.BadFile fault.place };
+
+    fn from(fault: entries::Fault) -> FragmentRefusal {
+        FragmentRefusal::BadFile(fault.place)
+    }
+}
+
+impl From<entries::Fault> for JoinRefusal {
+    ghost from_gives = { λ fault r. r ≡ joined.BadFile fault.place };
+
+    fn from(fault: entries::Fault) -> JoinRefusal {
+        JoinRefusal::BadFile(fault.place)
+    }
+}
+
+impl From<entries::Fault> for DepthRefusal {
+    ghost from_gives = { λ fault r. r ≡ depth.BadFile fault.place };
+
+    fn from(fault: entries::Fault) -> DepthRefusal {
+        DepthRefusal::BadFile(fault.place)
+    }
+}
 
 impl From<reader::Stop> for FragmentRefusal {
     ghost from_gives = { λ stop r. r ≡ stopped stop };
@@ -124,10 +151,7 @@ pub fn summarise(
 fn fragment_under(file: &[u8], bytes: &[u8]) -> Result<form::Summary, FragmentRefusal>
     ensures { FragmentSays file.now bytes.now (reply_of result) }
 {
-    let r = template::read(file);
-    let template::Reading::Sound(shape) = r else {
-        return Err(FragmentRefusal::BadFile(template::place(r)));
-    };
+    let shape = template::read(file)?;
     let mut lore = [0u64; lore::LORE];
     schema::teach(file, shape, &mut lore);
     let s = summarise(&lore, shape.names, bytes)?;
@@ -245,10 +269,7 @@ fn join_under(
 ) -> Result<form::Summary, JoinRefusal>
     ensures { JoinSays file.now left right (reply_of result) }
 {
-    let r = template::read(file);
-    let template::Reading::Sound(shape) = r else {
-        return Err(JoinRefusal::BadFile(template::place(r)));
-    };
+    let shape = template::read(file)?;
     if !is_summary(left, shape.names, usize::from(shape.states)) {
         return Err(JoinRefusal::NoSummary);
     }
@@ -277,10 +298,7 @@ fn difference(starts: usize, ends: usize) -> i32
 pub fn net_depth(file: &[u8], s: form::Summary) -> Result<i32, DepthRefusal>
     ensures { DepthSays file.now s result }
 {
-    let r = template::read(file);
-    let template::Reading::Sound(shape) = r else {
-        return Err(DepthRefusal::BadFile(template::place(r)));
-    };
+    let shape = template::read(file)?;
     if !is_summary(s, shape.names, usize::from(shape.states)) {
         return Err(DepthRefusal::NoSummary);
     }
