@@ -4,8 +4,7 @@
 use Rattle.std.specs.Prelude.{◌≡◌, List, ◌++◌, ◌↔◌, ℕ, ◌+◌, ◌≤◌, ◌<◌, length, drop, Result, Ok, Err}
 use Rattle.template.specs.Layout.{name_count, nonterminals, states}
 use Rattle.template.specs.Layout.{template_rules, schema_rules, ending_states, template_rules_of, schema_rules_of, ending_states_of}
-use Rattle.template.specs.Order.{IsSound, SoundOf, reading_of}
-use Rattle.template.specs.Order.{faulty}
+use Rattle.template.specs.Order.{IsSound, SoundOf, reading_of, faulty}
 use Rattle.save.specs.Entries.{Entry}
 use Rattle.save.specs.Files.{Bytes}
 use Rattle.long.specs.Rules.{long_symbols, long_count, extras, PartsFit, IsPart}
