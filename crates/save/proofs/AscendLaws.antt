@@ -16,7 +16,7 @@ use lib.ListN.{length, take, drop}
 use lib.Seq.{take_all}
 use Rattle.numbers.proofs.TestLaws.{and_out, or_out}
 use Rattle.rows.specs.Tables.{order, Ascending, row_at, rows_of, flat}
-use Rattle.rows.specs.declared.Order.TheVariants.{Less}
+use Rattle.std.specs.declared.cmp.Ordering.TheVariants.{Less}
 use Rattle.rows.proofs.OrderLaws.{order_below, order_on, less_irrefl, less_trans}
 use Rattle.rows.proofs.TableLaws.{rows_length, row_zero, row_suc, row_member, member_row, flat_rows}
 use Rattle.rows.proofs.SortLaws.{first_less, ascending_unique}

@@ -11,7 +11,7 @@ use native.Mathlib.Omega.{arith}
 use borrow.Author.Tests.{lt-ltb, le-ltb, eq-eqb}
 use lib.ListN.{length, drop}
 use Rattle.rows.specs.Tables.{order, Ascending, row_at, rows_of, flat}
-use Rattle.rows.specs.declared.Order.TheVariants.{Less, Same, More}
+use Rattle.std.specs.declared.cmp.Ordering.TheVariants.{Less, Equal, Greater}
 use Rattle.rows.proofs.OrderLaws.{order_above, order_on, order_refl}
 use Rattle.rows.proofs.TableLaws.{Wide, row_zero, row_suc, row_member, rows_wide, rows_flat, flat_length}
 use Rattle.entries.specs.Entries.{precedes}
@@ -21,10 +21,10 @@ use Rattle.save.proofs.AscendLaws.{entry_row, entry_member, member_entry}
 
 -- ---- two rows
 
-same_less : Same ≡ Less → ⊥
+same_less : Equal ≡ Less → ⊥
 same_less e = let z : ◌≡◌ {A = ℕ} 0 1 = cc in omega arith
 
-more_less : More ≡ Less → ⊥
+more_less : Greater ≡ Less → ⊥
 more_less e = let z : ◌≡◌ {A = ℕ} 0 1 = cc in omega arith
 
 pub less_precedes : (x y : List ℕ) → length x ≡ length y → order x y ≡ Less → precedes x y ≡ true
