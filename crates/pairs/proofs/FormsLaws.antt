@@ -1,16 +1,14 @@
 -- A form of each marked nonterminal (specs/Turns.antt), in the words in which `note_forms` has it, for `search forms_laws`: none is noted
--- before 0, one that is not marked is passed over, one that is marked is noted, and a form leaves at most 256 rows. The marks moved down by
--- x have the mark of x in front, and where they are 0 nothing from x on is marked. Assumes nothing.
-use mathlib.Core.Path.{◌≡◌, ◌∙◌}
+-- before 0, one that is not marked is passed over, one that is marked is noted, and a form leaves at most 256 rows. Where the marks moved
+-- down by x are 0, nothing from x on is marked. Assumes nothing.
+use mathlib.Core.Path.{◌≡◌}
 use mathlib.Core.Bool.{false}
 use mathlib.Core.List.{List}
-use Prim.Native.Nat.{ℕ, zero, suc, ◌+◌, ◌-◌, ◌/◌, ◌%◌, ◌^◌, ◌≤◌, ◌<◌}
-use native.Mathlib.Nat.{add-zero, add-suc, zero-div, div-eq_of_lt, lt_of_lt_of_le, lt_of_not-le}
+use Prim.Native.Nat.{ℕ, zero, suc, ◌+◌, ◌-◌, ◌/◌, ◌%◌, ◌^◌, ◌≤◌}
+use native.Mathlib.Nat.{add-zero, add-suc, zero-div}
 use native.Mathlib.Omega.{arith}
 use native.Mathlib.Numerals.{add-one}
-use lib.Pow.{pow_mono, shr-shr}
-use mir.Syntax.{w64}
-use mir.Val.{Fits}
+use lib.Pow.{shr-shr}
 use borrow.Author.Rules.{rules}
 use borrow.Author.Tests.{eq-eqb, ne_eqb}
 use Rattle.numbers.specs.Bits.{bit}
@@ -32,51 +30,38 @@ pair_room lore p t found r t' h (stands row q f) = h
 pair_room lore p t found r t' h (finds_no_room row q f l) = h
 pair_room lore p t found r t' h (goes_behind row u q f l a) = omega arith
 
--- ---- the marks, moved down by x
-
-pub marks_start : (marks : ℕ) → marks ≡ marks / 2 ^ 0
-marks_start marks = omega arith
-
-module _ (marks x rest : ℕ) (moved : rest ≡ marks / 2 ^ x) where
-  pub marks_next : rest / 2 ^ 1 ≡ marks / 2 ^ (x + 1)
-  marks_next = rw moved (shr-shr marks x 1)
-
-  -- as long as a mark is left, x is a nonterminal
-  pub marks_left : Fits w64 marks → 0 < rest → x + 1 ≤ 64
-  marks_left small some =
-      rw add-one
-      (lt_of_not-le
-      (λ l.
-      let none : rest ≡ 0 = moved ∙ div-eq_of_lt (lt_of_lt_of_le small.fits (pow_mono l)) in
-      omega arith))
-
-  -- when none is left, nothing from x on is marked
-  none_marked : rest ≡ 0 → (n : ℕ) → bit marks (x + n) ≡ false
-  none_marked none n = bit_digit marks (x + n) false (rw (← (shr-shr marks x n), ← moved, none, zero-div))
-
 -- ---- none, next, end
 
 module _ (lore : List ℕ) (marks : ℕ) (s : Stack Piece) (c : Piece) (t : List ℕ) (found : Tally) where
   pub forms_start : FormsNoted lore marks s c t found 0 found t
   forms_start = forms_none
 
-  module _ (x rest : ℕ) (r : Tally) (t' : List ℕ) (before : FormsNoted lore marks s c t found x r t') (moved : rest ≡ marks / 2 ^ x) where
-    pub forms_skip : (rest % 2 ≡ 1 → ⊥) → FormsNoted lore marks s c t found (x + 1) r t'
+  module _ (x : ℕ) (r : Tally) (t' : List ℕ) (before : FormsNoted lore marks s c t found x r t') where
+    pub forms_skip : (marks / 2 ^ x % 2 ≡ 1 → ⊥) → FormsNoted lore marks s c t found (x + 1) r t'
     unfolding bit
-    forms_skip n = rw add-one (forms_other before (ne_eqb (marks / 2 ^ x % 2) 1 (rw moved at n)))
+    forms_skip n = rw add-one (forms_other before (ne_eqb (marks / 2 ^ x % 2) 1 n))
 
-    pub forms_next : (r' : Tally) (t'' : List ℕ) → rest % 2 ≡ 1 → PairNoted lore (record { of = x; form = s; last = c }) t' r r' t''
+    pub forms_next : (r' : Tally) (t'' : List ℕ) → marks / 2 ^ x % 2 ≡ 1 → PairNoted lore (record { of = x; form = s; last = c }) t' r r' t''
         → FormsNoted lore marks s c t found (x + 1) r' t''
     unfolding bit
-    forms_next r' t'' e w = rw add-one (forms_more before (eq-eqb (marks / 2 ^ x % 2) 1 (rw moved at e)) w)
+    forms_next r' t'' e w = rw add-one (forms_more before (eq-eqb (marks / 2 ^ x % 2) 1 e) w)
 
-    forms_past : rest ≡ 0 → (n : ℕ) → FormsNoted lore marks s c t found (x + n) r t'
+    -- where no mark is left, nothing from x on is marked
+    none_marked : marks / 2 ^ x ≡ 0 → (n : ℕ) → bit marks (x + n) ≡ false
+    none_marked none n = bit_digit marks (x + n) false (rw (← (shr-shr marks x n), none, zero-div))
+
+    forms_past : marks / 2 ^ x ≡ 0 → (n : ℕ) → FormsNoted lore marks s c t found (x + n) r t'
     forms_past none zero = rw add-zero before
-    forms_past none (suc n) = rw add-suc (forms_other (forms_past none n) (none_marked marks x rest moved none n))
+    forms_past none (suc n) = rw add-suc (forms_other (forms_past none n) (none_marked none n))
 
-    pub forms_end : rest ≤ 0 → x ≤ 64 → FormsNoted lore marks s c t found 64 r t'
+    pub forms_end : marks / 2 ^ x ≡ 0 → x ≤ 64 → FormsNoted lore marks s c t found 64 r t'
     forms_end none h =
         let e : x + (64 - x) ≡ 64 = omega arith in
-        rw e at (forms_past (omega arith) (64 - x))
+        rw e at (forms_past none (64 - x))
 
-pub ruleset forms_laws = (pair_room, marks_start, marks_next, marks_left, forms_start, forms_skip, forms_next, forms_end, rules)
+    pub forms_all : x ≤ 64 → 64 ≤ x → FormsNoted lore marks s c t found 64 r t'
+    forms_all h l =
+        let e : x ≡ 64 = omega arith in
+        rw e at before
+
+pub ruleset forms_laws = (pair_room, forms_start, forms_skip, forms_next, forms_end, forms_all, rules)

@@ -9,6 +9,7 @@ use native.Mathlib.Omega.{arith}
 use lib.Dec.{eqb}
 use lib.ListN.{length, set, take, drop}
 use borrow.Author.Rules.{rules}
+use Rattle.std.specs.Prelude.{Option, Some, None}
 use borrow.Author.Tests.{lt-ltb, le-ltb, eqb-true, eq-eqb}
 use Rattle.words.specs.Reduced.{Stack}
 use Rattle.pieces.specs.declared.Piece.{Piece}
@@ -28,8 +29,6 @@ use Rattle.pairs.specs.Slots.{slot_of}
 use Rattle.pairs.specs.Turns.{slot_fits, SomePairRow, Choosable, TagForm, FormOf, Loads}
 use Rattle.pairs.specs.declared.Slot.{Slot}
 use Rattle.pairs.specs.declared.Slot.TheVariants.{Absent, Single, Rows}
-use Rattle.pairs.specs.declared.Loaded.{Loaded}
-use Rattle.pairs.specs.declared.Loaded.TheVariants.{Form, Nothing}
 
 -- ---- the slot of a byte
 
@@ -103,7 +102,7 @@ module _ (names values : List ℕ) (zeros : Holds (summary_of no_tags names valu
   first_piece = rw first-is (piece_same values 0 empty zeros.values_long (omega arith))
 
   pub loads_absent : (s : Slot) (t : List ℕ) (k : ℕ) (c : Counts) → s ≡ Absent → c ≡ no_tags
-      → Loads (FormOf empty t s k) (Form c) names first
+      → Loads (FormOf empty t s k) (Some c) names first
   loads_absent s t k c e d = rw (e, d) (holds_first, (stack_none 0 names first, first_piece))
 
   module _ (a : ℕ) (closes : Bool) (c : Counts) (both : List ℕ) (both_is : both ≡ put_piece first 1 empty) where
@@ -113,21 +112,21 @@ module _ (names values : List ℕ) (zeros : Holds (summary_of no_tags names valu
     holds_tag : 1 ≡ c.ends + c.starts → Holds (summary_of c (set names 0 a) both)
     holds_tag one = rw both_is (holds_put (summary_of no_tags names first) c 1 a empty one (omega arith) (omega arith) holds_first few)
 
-    pub loads_end : closes ≡ true → c ≡ record { ends = 1; starts = 0 } → Loads (TagForm empty closes a) (Form c) (set names 0 a) both
+    pub loads_end : closes ≡ true → c ≡ record { ends = 1; starts = 0 } → Loads (TagForm empty closes a) (Some c) (set names 0 a) both
     loads_end e d =
         let form = stack_put_end 0 0 1 a empty names first (omega arith) (omega arith) (omega (arith, zeros.names_long)) in (
           holds_tag (rw d (omega arith)),
           (rw (d, e, both_is, form, first_piece, stack_none 0 names first), rw d second_piece),
         )
 
-    pub loads_start : closes ≡ false → c ≡ record { ends = 0; starts = 1 } → Loads (TagForm empty closes a) (Form c) (set names 0 a) both
+    pub loads_start : closes ≡ false → c ≡ record { ends = 0; starts = 1 } → Loads (TagForm empty closes a) (Some c) (set names 0 a) both
     loads_start e d =
         let form = stack_put_start 0 0 1 a empty names first (omega arith) (omega arith) (omega (arith, zeros.names_long)) in (
           holds_tag (rw d (omega arith)),
           (rw (d, e, both_is, form, first_piece, stack_none 0 names first), rw d second_piece),
         )
 
-module _ (empty : Piece) (t : List ℕ) (s : Slot) (k : ℕ) (names values : List ℕ) (r : Loaded) where
+module _ (empty : Piece) (t : List ℕ) (s : Slot) (k : ℕ) (names values : List ℕ) (r : Option Counts) where
   pub loads_single : (closes : Bool) (a : ℕ) → s ≡ Single closes a → Loads (TagForm empty closes a) r names values
       → Loads (FormOf empty t s k) r names values
   loads_single closes a e w = rw e w
@@ -138,7 +137,7 @@ module _ (empty : Piece) (t : List ℕ) (s : Slot) (k : ℕ) (names values : Lis
 module _ (t : List ℕ) (k x : ℕ) (fits : Bool) (told : fits ≡ eqb (nonterminal_in (table_row t k)) x) (packs : SomePairRow (table_row t k)) where
   pub loads_row : (c : Counts) (names values : List ℕ) → fits ≡ true
       → summary_of c names values ≡ summary_in (take (k * row_width + row_width - k * row_width) (drop (k * row_width) t))
-      → Loads (RowOf (table_row t k) x) (Form c) names values
+      → Loads (RowOf (table_row t k) x) (Some c) names values
   loads_row c names values f is =
       let (p, r) = packs in
       let row = table_row t k in
@@ -150,7 +149,7 @@ module _ (t : List ℕ) (k x : ℕ) (fits : Bool) (told : fits ≡ eqb (nontermi
         rw (row_form row p.of p.form p.last r, row_last row p.of p.form p.last r, ← of) r,
       )
 
-  pub loads_nothing : (names values : List ℕ) → fits ≡ false → Loads (RowOf (table_row t k) x) Nothing names values
+  pub loads_nothing : (names values : List ℕ) → fits ≡ false → Loads (RowOf (table_row t k) x) None names values
   loads_nothing names values f form last r =
       false≢true (sym f ∙ told ∙ row_of_fits t k x form last r)
 

@@ -1,7 +1,7 @@
 -- What is noted of a form (specs/Turns.antt), in the words in which `invalid_form` and `note_form` have it, for `search notes`: only a form
 -- of the start can be an invalid page, and its ending says so; the row of a form in the arrays is not looked for where one found no room
 -- before, stands among the others, finds no room, or goes behind them. The row is as wide as the table's rows. Assumes nothing.
-use mathlib.Core.Path.{◌≡◌, sym, ap, ◌∙◌}
+use mathlib.Core.Path.{◌≡◌, sym, ap, subst, ◌∙◌}
 use mathlib.Core.Bool.{Bool, true, false, not, ◌||◌}
 use mathlib.Core.List.{List, [], ◌∷◌, ◌++◌}
 use Prim.Native.Nat.{ℕ, ◌+◌, ◌*◌, ◌≤◌, ◌<◌}
@@ -44,12 +44,11 @@ module _ (lore : List ℕ) (x : ℕ) (c : Counts) (values : List ℕ) where
 
 -- ---- the row of a form in the arrays
 
-pub form_row : (row own names values : List ℕ) (x : ℕ) (c : Counts) → own ≡ names → row ≡ packed x (summary_of c own values)
-    → Holds (summary_of c names values) → Fits w8 x → ((k : ℕ) → Fits w8 (get_or own k 0))
+pub form_row : (row names values : List ℕ) (x : ℕ) (c : Counts) → row ≡ packed x (summary_of c names values)
+    → Holds (summary_of c names values) → Fits w8 x → ((k : ℕ) → Fits w8 (get_or names k 0))
     → RowOf row x (form_of (summary_of c names values)) (last_of (summary_of c names values))
-form_row row own names values x c copied row_is holds small bytes =
-    rw (row_is, copied)
-    (packed_row x (summary_of c names values) (λ k. omega (arith, (rw copied at (bytes k)).fits)) (omega (arith, small.fits)) holds)
+form_row row names values x c row_is holds small bytes =
+    rw row_is (packed_row x (summary_of c names values) (λ k. omega (arith, (bytes k).fits)) (omega (arith, small.fits)) holds)
 
 -- ---- room for rows
 
@@ -62,7 +61,7 @@ module _ (m w l : ℕ) (wide : w ≡ row_width) (long : table_long ≤ l) where
 
 -- ---- a form
 
-module _ (lore names values : List ℕ) (x : ℕ) (c : Counts) (t : List ℕ) (found r : Tally) (invalid : Bool)
+module _ (lore names values : List ℕ) (x : ℕ) (c : Counts) (t : List ℕ) (found : Tally) (invalid : Bool)
     (told : (form : Stack Piece) → tags form ≡ tag_count c
     → invalid ≡ invalid_form lore (record { of = x; form = form; last = piece_at values (tag_count c) })) where
   abbrev noted : Pair Piece
@@ -72,15 +71,19 @@ module _ (lore names values : List ℕ) (x : ℕ) (c : Counts) (t : List ℕ) (f
   invalid_is = told noted.form (tags_held c.ends (tag_count c) names values)
 
   -- so many rows, and the notes with this one on crowding
-  abbrev TallyIs : ℕ → Bool → Type 0
-  TallyIs n crowded =
-      r ≡ record {
+  abbrev tally : ℕ → Bool → Tally
+  tally n crowded =
+      record {
         rows = n;
         notes = record { invalid = found.notes.invalid || invalid; deep = found.notes.deep; crowded = crowded };
       }
 
-  pub note_crowded : TallyIs found.rows true → found.notes.crowded ≡ true → PairNoted lore noted t found r t
-  note_crowded is f = rw (is, invalid_is) (was_crowded f)
+  pub note_crowded : found.notes.crowded ≡ true → PairNoted lore noted t found (tally found.rows found.notes.crowded) t
+  note_crowded f =
+      rw invalid_is (subst (λ (b : Bool). PairNoted lore noted t found (record {
+        rows = found.rows;
+        notes = record { invalid = found.notes.invalid || invalid_form lore noted; deep = found.notes.deep; crowded = b };
+      }) t) (sym f) (was_crowded f))
 
   module _ (stood : Bool) (row : List ℕ) (packs : RowOf row x noted.form noted.last)
       (looked : stood ≡ among row (rows_of (length row) found.rows t)) where
@@ -90,16 +93,17 @@ module _ (lore names values : List ℕ) (x : ℕ) (c : Counts) (t : List ℕ) (f
     found_among : (b : Bool) → stood ≡ b → among row (rows_of row_width found.rows t) ≡ b
     found_among b f = ap (λ (w : ℕ). among row (rows_of w found.rows t)) (sym wide) ∙ sym looked ∙ f
 
-    pub note_stands : TallyIs found.rows found.notes.crowded → stood ≡ true → PairNoted lore noted t found r t
-    note_stands is f = rw (is, invalid_is) (stands row packs (found_among true f))
+    pub note_stands : stood ≡ true → PairNoted lore noted t found (tally found.rows found.notes.crowded) t
+    note_stands f = rw invalid_is (stands row packs (found_among true f))
 
-    pub note_no_room : TallyIs found.rows true → stood ≡ false → most_images ≤ found.rows → PairNoted lore noted t found r t
-    note_no_room is f l = rw (is, invalid_is) (finds_no_room row packs (found_among false f) l)
+    pub note_no_room : stood ≡ false → most_images ≤ found.rows → PairNoted lore noted t found (tally found.rows true) t
+    note_no_room f l = rw invalid_is (finds_no_room row packs (found_among false f) l)
 
-    pub note_behind : (t' : List ℕ) → TallyIs (found.rows + 1) found.notes.crowded → stood ≡ false → found.rows < most_images
-        → t' ≡ table_of (rows_of (length row) found.rows t ++ (row ∷ [])) t → PairNoted lore noted t found r t'
-    note_behind t' is f l a =
-        rw (is, invalid_is)
+    pub note_behind : (t' : List ℕ) → stood ≡ false → found.rows < most_images
+        → t' ≡ table_of (rows_of (length row) found.rows t ++ (row ∷ [])) t
+        → PairNoted lore noted t found (tally (found.rows + 1) found.notes.crowded) t'
+    note_behind t' f l a =
+        rw invalid_is
         (goes_behind row t' packs (found_among false f) l
         (a ∙ ap (λ (w : ℕ). table_of (rows_of w found.rows t ++ (row ∷ [])) t) wide))
 

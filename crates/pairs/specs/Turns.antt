@@ -1,6 +1,6 @@
 -- One pair of choices of the walk (walk/specs/Walks.antt): what is loaded of a choice, what its form does to the rows and the notes, and
 -- from which choices on the walk joins. Cited by the contracts of the functions that the walk calls.
-use Rattle.std.specs.Prelude.{◌≡◌, Bool, true, false, not, ◌&&◌, ◌||◌, List, [], ◌∷◌, ◌++◌, ℕ, suc, ◌+◌, ◌*◌, ◌≤◌, ◌<◌, eqb, length}
+use Rattle.std.specs.Prelude.{◌≡◌, Bool, true, false, not, ◌&&◌, ◌||◌, Option, Some, None, List, [], ◌∷◌, ◌++◌, ℕ, suc, ◌+◌, ◌*◌, ◌≤◌, ◌<◌, eqb, length}
 use Rattle.numbers.specs.Bits.{bit}
 use Rattle.words.specs.Reduced.{Stack, bottom, push, tags}
 use Rattle.words.specs.Reader.{Outcome, reduced, differ, join}
@@ -8,6 +8,7 @@ use Rattle.pieces.specs.declared.Piece.{Piece}
 use Rattle.pieces.specs.Pieces.{most_tags, pieces}
 use Rattle.form.specs.Held.{tag_of, summary_of, form_of, last_of, Holds}
 use Rattle.form.specs.Endings.{ending_of}
+use Rattle.form.specs.declared.Counts.{Counts}
 use Rattle.form.specs.declared.Ending.{Ending}
 use Rattle.form.specs.declared.Ending.TheVariants as ending
 use Rattle.trees.specs.Events.{Pair}
@@ -18,11 +19,7 @@ use Rattle.pairs.specs.declared.Slot.{Slot}
 use Rattle.pairs.specs.declared.Slot.TheVariants.{Absent, Single, Rows}
 use Rattle.pairs.specs.declared.Selection.{Selection}
 use Rattle.pairs.specs.declared.Notes.{Notes}
-use Rattle.pairs.specs.declared.Loaded.{Loaded}
-use Rattle.pairs.specs.declared.Loaded.TheVariants.{Form, Nothing}
 use Rattle.pairs.specs.declared.Tally.{Tally}
-use Rattle.pairs.specs.declared.Turn.{Turn}
-use Rattle.pairs.specs.declared.Turn.TheVariants.{Kept, Mismatch}
 
 -- ---- which choices are joined
 
@@ -70,10 +67,10 @@ FormOf empty t (Single closes a) k form last = TagForm empty closes a form last
 FormOf empty t (Rows x) k form last = RowOf (table_row t k) x form last
 
 -- the arrays hold a form that is C, or no form is
-abbrev pub Loads : (Stack Piece → Piece → Type 0) → Loaded → List ℕ → List ℕ → Type 0
-Loads C (Form c) names values =
+abbrev pub Loads : (Stack Piece → Piece → Type 0) → Option Counts → List ℕ → List ℕ → Type 0
+Loads C (Some c) names values =
     Holds (summary_of c names values) × C (form_of (summary_of c names values)) (last_of (summary_of c names values))
-Loads C Nothing names values = (form : Stack Piece) (last : Piece) → C form last → ⊥
+Loads C None names values = (form : Stack Piece) (last : Piece) → C form last → ⊥
 
 -- ---- what a form does to the rows and the notes
 
@@ -119,12 +116,12 @@ abbrev pub after_deep : ℕ → Notes → Notes
 after_deep marks notes = record { invalid = notes.invalid || bit marks 0; deep = true; crowded = notes.crowded }
 
 -- an outcome of every marked nonterminal: a mismatch, more than 16 tags, or a form of at most 16
-pub data OutcomeNoted (lore : List ℕ) (marks : ℕ) (o : Outcome Piece) (t : List ℕ) (found : Tally) : Turn → List ℕ → Type 0 where
-  mismatches : (a b : ℕ) → o ≡ differ a b → OutcomeNoted lore marks o t found Mismatch t
+pub data OutcomeNoted (lore : List ℕ) (marks : ℕ) (o : Outcome Piece) (t : List ℕ) (found : Tally) : Option Tally → List ℕ → Type 0 where
+  mismatches : (a b : ℕ) → o ≡ differ a b → OutcomeNoted lore marks o t found None t
   is_deep : (s : Stack Piece) (c : Piece) → o ≡ reduced s c → most_tags < tags s
-      → OutcomeNoted lore marks o t found (Kept (record { rows = found.rows; notes = after_deep marks found.notes })) t
+      → OutcomeNoted lore marks o t found (Some (record { rows = found.rows; notes = after_deep marks found.notes })) t
   is_form : (s : Stack Piece) (c : Piece) (r : Tally) (t' : List ℕ) → o ≡ reduced s c → tags s ≤ most_tags
-      → FormsNoted lore marks s c t found 64 r t' → OutcomeNoted lore marks o t found (Kept r) t'
+      → FormsNoted lore marks s c t found 64 r t' → OutcomeNoted lore marks o t found (Some r) t'
 
 -- a pair of choices under rules of every marked nonterminal: no forms, and nothing changes; or they are joined, once for all
 module _ (lore t : List ℕ) (pair : Selection) (marks : ℕ) (found : Tally) where
@@ -134,7 +131,7 @@ module _ (lore t : List ℕ) (pair : Selection) (marks : ℕ) (found : Tally) wh
   abbrev pub RightForm : Stack Piece → Piece → Type 0
   RightForm s c = FormOf (pieces lore).unit t pair.right pair.k s c
 
-  pub data Turned : Turn → List ℕ → Type 0 where
-    no_forms : ((s : Stack Piece) (c : Piece) (u : Stack Piece) (d : Piece) → LeftForm s c → RightForm u d → ⊥) → Turned (Kept found) t
-    joined : (s : Stack Piece) (c : Piece) (u : Stack Piece) (d : Piece) (r : Turn) (t' : List ℕ) → LeftForm s c → RightForm u d
+  pub data Turned : Option Tally → List ℕ → Type 0 where
+    no_forms : ((s : Stack Piece) (c : Piece) (u : Stack Piece) (d : Piece) → LeftForm s c → RightForm u d → ⊥) → Turned (Some found) t
+    joined : (s : Stack Piece) (c : Piece) (u : Stack Piece) (d : Piece) (r : Option Tally) (t' : List ℕ) → LeftForm s c → RightForm u d
         → OutcomeNoted lore marks (join (pieces lore) (reduced s c) u d) t found r t' → Turned r t'

@@ -2,7 +2,7 @@
 // the left side of each rule. What is new goes behind the rows that are there.
 #![tactic(auto)]
 
-ghost use Rattle.std.specs.Prelude.{◌≡◌, true, ◌+◌, ◌*◌, ◌≤◌, eqb, length};
+ghost use Rattle.std.specs.Prelude.{◌≡◌, ◌+◌, ◌*◌, ◌≤◌, eqb, length, Some};
 ghost use Rattle.words.specs.Reduced.{Stack, tags};
 ghost use Rattle.hedge.specs.Schema.{most_states};
 ghost use Rattle.lore.specs.Lore.{IsLore};
@@ -16,7 +16,7 @@ ghost use Rattle.pairs.specs.Turns.{slot_fits, SomePairRow, Choosable, TagForm, 
 ghost use Rattle.pairs.specs.Turns.{PairNoted, FormsNoted, Turned};
 
 // What stands at a place of a rule's right side: nothing, a tag, or the rows of a nonterminal.
-#[derive(Clone, Copy)]
+#[derive(Clone, Copy, Debug, PartialEq, Eq)]
 pub enum Slot {
     Absent,
     Single(bool, u8),
@@ -24,7 +24,7 @@ pub enum Slot {
 }
 
 // Choice j of the left slot with choice k of the right one.
-#[derive(Clone, Copy)]
+#[derive(Clone, Copy, Debug, PartialEq, Eq)]
 pub struct Selection {
     pub left: Slot,
     pub j: usize,
@@ -33,7 +33,7 @@ pub struct Selection {
 }
 
 // What a walk noted: an invalid page, a string of more than 16 tags, more than 256 images.
-#[derive(Clone, Copy)]
+#[derive(Clone, Copy, Debug, PartialEq, Eq)]
 pub struct Notes {
     pub invalid: bool,
     pub deep: bool,
@@ -41,40 +41,25 @@ pub struct Notes {
 }
 
 // So many rows, and these notes.
-#[derive(Clone, Copy)]
+#[derive(Clone, Copy, Debug, PartialEq, Eq)]
 pub struct Tally {
     pub rows: usize,
     pub notes: Notes,
 }
 
-// A choice's form in the arrays, with so many ends and starts; or the row is another nonterminal's.
-#[derive(Clone, Copy)]
-pub enum Loaded {
-    Form(form::Counts),
-    Nothing,
-}
-
-// One pair of choices: the tally after it, or a mismatch.
-#[derive(Clone, Copy)]
-pub enum Turn {
-    Kept(Tally),
-    Mismatch,
-}
-
 // What a byte stands for at a place that is used or not.
+#[tactic(auto, unfolding(crate::specs::Slots::slot_of))]
 pub fn slot_of(used: bool, byte: u8) -> Slot
     ensures { result ≡ slot_of used byte }
 {
-    if used {
-        if byte < 32 {
-            return Slot::Single(false, byte);
-        }
-        if byte < 64 {
-            return Slot::Single(true, byte - 32);
-        }
-        return Slot::Rows(byte - 64);
+    if !used {
+        return Slot::Absent;
     }
-    Slot::Absent
+    match byte {
+        0..=31 => Slot::Single(false, byte),
+        32..=63 => Slot::Single(true, byte - 32),
+        _ => Slot::Rows(byte - 64),
+    }
 }
 
 // Is row k one of the nonterminal x?
@@ -99,49 +84,48 @@ pub fn fits(s: Slot, k: usize, table: &[u64]) -> bool
     }
 }
 
-// Puts a tag's own form into two arrays of zeros.
+// Puts a tag's own form into two arrays of zeros: so many ends and starts.
 fn load_tag(
     empty: pieces::Piece,
     closes: bool,
     a: u8,
     names: &mut [u8; pieces::TAGS],
     values: &mut [u64; pieces::PIECES],
-) -> Loaded
+) -> form::Counts
     requires counted { Counted empty }
     requires holds { Holds (summary_of (record { ends = 0; starts = 0 }) names.old values.old) }
-    ensures { Loads (TagForm empty closes a) result names.new values.new }
+    ensures { Loads (TagForm empty closes a) (Some result) names.new values.new }
 {
     names[0] = a;
     pieces::put_piece(values, 0, empty);
     pieces::put_piece(values, 1, empty);
     if closes {
-        return Loaded::Form(form::counted(1, 0));
+        return form::counted(1, 0);
     }
-    Loaded::Form(form::counted(0, 1))
+    form::counted(0, 1)
 }
 
-// Puts the form of row k into two arrays, where it is one of the nonterminal x.
+// Puts the form of row k into two arrays, where it is one of the nonterminal x; a row of another nonterminal is none.
 fn load_row(
     table: &[u64],
     k: usize,
     x: u8,
     names: &mut [u8; pieces::TAGS],
     values: &mut [u64; pieces::PIECES],
-) -> Loaded
+) -> Option<form::Counts>
     requires row_width_in_bounds { k * row_width + row_width ≤ length table.now }
     requires some_pair_row { SomePairRow (table_row table.now k) }
     ensures { Loads (RowOf (table_row table.now k) x) result names.new values.new }
 {
-    if row_fits(table, k, x) {
-        let at = k * worktable::ROW;
-        let e = at + worktable::ROW;
-        let c = worktable::unpack(&table[at..e], names, values);
-        return Loaded::Form(c);
+    if !row_fits(table, k, x) {
+        return None;
     }
-    Loaded::Nothing
+    let at = k * worktable::ROW;
+    let e = at + worktable::ROW;
+    Some(worktable::unpack(&table[at..e], names, values))
 }
 
-// Puts choice k of a slot into two arrays of zeros.
+// Puts choice k of a slot into two arrays of zeros, with so many ends and starts; a row of another nonterminal is no choice.
 fn load(
     empty: pieces::Piece,
     s: Slot,
@@ -149,7 +133,7 @@ fn load(
     table: &[u64],
     names: &mut [u8; pieces::TAGS],
     values: &mut [u64; pieces::PIECES],
-) -> Loaded
+) -> Option<form::Counts>
     requires counted { Counted empty }
     requires choosable { Choosable table.now s k }
     requires holds { Holds (summary_of (record { ends = 0; starts = 0 }) names.old values.old) }
@@ -158,9 +142,9 @@ fn load(
     match s {
         Slot::Absent => {
             pieces::put_piece(values, 0, empty);
-            Loaded::Form(form::counted(0, 0))
+            Some(form::counted(0, 0))
         }
-        Slot::Single(closes, a) => load_tag(empty, closes, a, names, values),
+        Slot::Single(closes, a) => Some(load_tag(empty, closes, a, names, values)),
         Slot::Rows(x) => load_row(table, k, x, names, values),
     }
 }
@@ -195,13 +179,6 @@ fn invalid_form(
     false
 }
 
-// The names as an array of one's own, of which its type says that each is a byte.
-fn own(names: &[u8; pieces::TAGS]) -> [u8; pieces::TAGS]
-    ensures { result ≡ names.now }
-{
-    *names
-}
-
 // The row of a form of x.
 fn row_of(
     x: u8,
@@ -213,22 +190,7 @@ fn row_of(
     ensures { RowOf result x (form_of (summary_of c names.now values.now))
         (last_of (summary_of c names.now values.now)) }
 {
-    let bytes = own(names);
-    worktable::pack(x, c, &bytes, values)
-}
-
-// The tally of m rows, where an invalid page was noted or not, and crowding too.
-fn tallied(m: usize, deep: bool, invalid: bool, crowded: bool) -> Tally
-    ensures { result ≡ record { rows = m; notes = record { invalid = invalid; deep = deep; crowded = crowded } } }
-{
-    Tally {
-        rows: m,
-        notes: Notes {
-            invalid: invalid,
-            deep: deep,
-            crowded: crowded,
-        },
-    }
+    worktable::pack(x, c, names, values)
 }
 
 // A form of x: its row goes behind the others, unless it stands among them or there is no room.
@@ -250,25 +212,28 @@ fn note_form(
       last = last_of (summary_of c names.now values.now);
     }) table.old found result table.new }
 {
-    let m = found.rows;
-    let notes = found.notes;
-    let invalid = notes.invalid | invalid_form(lore, x, c, values);
+    let rows = found.rows;
+    let mut notes = found.notes;
+    notes.invalid |= invalid_form(lore, x, c, values);
     if notes.crowded {
-        return tallied(m, notes.deep, invalid, true);
+        return Tally { rows, notes };
     }
     let row = row_of(x, c, names, values);
-    if rows::holds(table, m, &row) {
-        return tallied(m, notes.deep, invalid, notes.crowded);
+    if rows::holds(table, rows, &row) {
+        return Tally { rows, notes };
     }
-    if worktable::IMAGES <= m {
-        return tallied(m, notes.deep, invalid, true);
+    if worktable::IMAGES <= rows {
+        notes.crowded = true;
+        return Tally { rows, notes };
     }
-    rows::add(table, m, &row);
-    tallied(m + 1, notes.deep, invalid, notes.crowded)
+    rows::add(table, rows, &row);
+    Tally {
+        rows: rows + 1,
+        notes,
+    }
 }
 
-// A form of each marked nonterminal, in turn. The marks are moved down from each to the next, and no turn is made once none is left, for
-// mostly there is one.
+// A form of each marked nonterminal, in turn. No turn is made once no mark is left, for mostly there is one.
 fn note_forms(
     lore: &[u64; lore::LORE],
     marks: u64,
@@ -285,14 +250,14 @@ fn note_forms(
         (last_of (summary_of c names.now values.now)) table.old found 64 result table.new }
 {
     let mut tally = found;
-    let mut rest = marks;
-    let mut x = 0u8;
-    while 0 < rest {
+    for x in 0..64u8 {
+        let rest = marks >> x;
+        if rest == 0 {
+            return tally;
+        }
         if rest % 2 == 1 {
             tally = note_form(lore, x, c, names, values, table, tally);
         }
-        rest = rest >> 1;
-        x += 1;
     }
     tally
 }
@@ -301,24 +266,21 @@ fn note_forms(
 fn noted_deep(marks: u64, found: Tally) -> Tally
     ensures { result ≡ record { rows = found.rows; notes = after_deep marks found.notes } }
 {
-    let notes = found.notes;
-    tallied(
-        found.rows,
-        true,
-        notes.invalid | useful::marked(marks, 0),
-        notes.crowded,
-    )
+    let mut tally = found;
+    tally.notes.invalid |= useful::marked(marks, 0);
+    tally.notes.deep = true;
+    tally
 }
 
 // One pair of choices under rules of every marked nonterminal: joined once for all of them. Most right rows are other nonterminals', so the
-// right choice is looked at before any array is made.
+// right choice is looked at before any array is made. None: a mismatch.
 pub fn one_turn(
     lore: &[u64; lore::LORE],
     pair: Selection,
     marks: u64,
     table: &mut [u64],
     found: Tally,
-) -> Turn
+) -> Option<Tally>
     requires lore { IsLore most_states lore.now }
     requires choosable { Choosable table.old pair.left pair.j }
     requires choosable_2 { Choosable table.old pair.right pair.k }
@@ -326,31 +288,26 @@ pub fn one_turn(
     requires rows_le_most_images { found.rows ≤ most_images }
     ensures { Turned lore.now table.old pair marks found result table.new }
 {
-    let right = pair.right;
-    let left = pair.left;
-    if !fits(right, pair.k, table) {
-        return Turn::Kept(found);
+    if !fits(pair.right, pair.k, table) {
+        return Some(found);
     }
     let empty = pieces::empty(lore);
     let mut tags = [0u8; pieces::TAGS];
     let mut parts = [0u64; pieces::PIECES];
-    let b = load(empty, right, pair.k, table, &mut tags, &mut parts);
-    let Loaded::Form(more) = b else {
-        return Turn::Kept(found);
+    let b = load(empty, pair.right, pair.k, table, &mut tags, &mut parts);
+    let Some(more) = b else {
+        return Some(found);
     };
     let mut names = [0u8; pieces::TAGS];
     let mut values = [0u64; pieces::PIECES];
-    let a = load(empty, left, pair.j, table, &mut names, &mut values);
-    let Loaded::Form(c) = a else {
-        return Turn::Kept(found);
+    let a = load(empty, pair.left, pair.j, table, &mut names, &mut values);
+    let Some(c) = a else {
+        return Some(found);
     };
     let t = form::then_form(lore, &mut names, &mut values, c, &tags, &parts, more);
     match t {
-        form::Step::Kept(d) => {
-            let tally = note_forms(lore, marks, d, &names, &values, table, found);
-            Turn::Kept(tally)
-        }
-        form::Step::Mismatch(_, _) => Turn::Mismatch,
-        form::Step::TooDeep => Turn::Kept(noted_deep(marks, found)),
+        form::Step::Kept(d) => Some(note_forms(lore, marks, d, &names, &values, table, found)),
+        form::Step::Mismatch(_, _) => None,
+        form::Step::TooDeep => Some(noted_deep(marks, found)),
     }
 }

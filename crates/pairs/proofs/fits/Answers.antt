@@ -2,15 +2,6 @@
 use Rattle.pairs.proofs.LoadLaws.{loads}
 use Rattle.pairs.proofs.fits.Goals as goal
 
-pub enum_told-1 : goal.enum_told-1
-enum_told-1 c = search loads
-
-pub enum_told-in-Single : goal.enum_told-in-Single
-enum_told-in-Single c = search loads
-
-pub enum_known-s : goal.enum_known-s
-enum_known-s c = search loads
-
 pub row_fits-requires : goal.row_fits-requires
 row_fits-requires c = search loads
 

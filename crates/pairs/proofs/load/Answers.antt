@@ -2,23 +2,14 @@
 use Rattle.pairs.proofs.LoadLaws.{loads}
 use Rattle.pairs.proofs.load.Goals as goal
 
-pub enum_told-1 : goal.enum_told-1
-enum_told-1 c = search loads
-
 pub put_piece-requires : goal.put_piece-requires
 put_piece-requires c = search loads
 
 pub counted-requires : goal.counted-requires
 counted-requires c = search loads
 
-pub enum_known-s : goal.enum_known-s
-enum_known-s c = search loads
-
 pub load_tag-requires : goal.load_tag-requires
 load_tag-requires c = search loads
-
-pub enum_known-s-in-Rows-1 : goal.enum_known-s-in-Rows-1
-enum_known-s-in-Rows-1 c = search loads
 
 pub load_row-requires : goal.load_row-requires
 load_row-requires c = search loads

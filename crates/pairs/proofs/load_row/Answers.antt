@@ -17,11 +17,11 @@ offset_bounds-table-at c = search loads
 pub slice_bounds-unpack-count : goal.slice_bounds-unpack-count
 slice_bounds-unpack-count c = search loads
 
-pub unpack-c-requires : goal.unpack-c-requires
-unpack-c-requires c = search loads
+pub unpack-requires : goal.unpack-requires
+unpack-requires c = search loads
 
-pub returns-then-row_fits : goal.returns-then-row_fits
-returns-then-row_fits c = search loads
+pub returns-then-not-row_fits : goal.returns-then-not-row_fits
+returns-then-not-row_fits c = search loads
 
 pub returns : goal.returns
 returns c = search loads
