@@ -2,21 +2,20 @@
 -- zeros hold the empty form, what is loaded stands in the arrays, and joining on the arrays says what the join is under the limit (form's
 -- FormLaws, words' LimitLaws). Assumes nothing.
 use mathlib.Core.Path.{◌≡◌, sym, ◌∙◌}
-use mathlib.Core.Bool.{Bool, true, false≢true, not, ◌||◌}
+use mathlib.Core.Bool.{Bool, true, false≢true, not}
 use mathlib.Core.List.{List}
-use Prim.Native.Nat.{ℕ, ◌≤◌}
+use Prim.Native.Nat.{ℕ}
 use native.Mathlib.Omega.{arith}
 use lib.ListN.{length-replicate, replicate}
 use borrow.Author.Rules.{rules}
 use Rattle.std.specs.Prelude.{Option, Some, None}
 use borrow.Author.Tests.{not-true}
-use Rattle.numbers.specs.Bits.{bit}
 use Rattle.words.specs.Reader.{Outcome, reduced, join}
 use Rattle.words.proofs.LimitLaws.{Answers, limit_iff}
 use Rattle.pieces.specs.declared.Piece.{Piece}
 use Rattle.pieces.specs.Pieces.{most_tags, pieces_long, zero_piece, pieces, Counted}
 use Rattle.pieces.proofs.PieceLaws.{no_pieces, none_counted}
-use Rattle.form.specs.Held.{tag_count, summary_of, form_of, last_of, Holds}
+use Rattle.form.specs.Held.{summary_of, form_of, last_of, Holds}
 use Rattle.form.specs.Steps.{outcome, Stepped, after_form}
 use Rattle.form.specs.declared.Counts.{Counts}
 use Rattle.form.specs.declared.Summary.{Summary}

@@ -1,6 +1,6 @@
 -- The two places of a rule's right side, and the forms that each can take from the rows of a book. Rules, section 4: behind a rule's left
 -- side and length stand two symbols; an image of a nonterminal is a row of it.
-use Rattle.std.specs.Prelude.{◌≡◌, Bool, true, false, cond, List, ℕ, ◌-◌, ◌<◌, ltb}
+use Rattle.std.specs.Prelude.{◌≡◌, Bool, true, false, cond, List, ℕ, ◌+◌, ◌-◌, ◌<◌, ltb}
 use Rattle.numbers.specs.Fields.{field}
 use Rattle.words.specs.Reduced.{Stack, bottom, push}
 use Rattle.pieces.specs.declared.Piece.{Piece}
@@ -15,12 +15,15 @@ unfoldable pub slot_of : Bool → ℕ → Slot
 slot_of used b =
     cond used (cond (ltb b 32) (Single false b) (cond (ltb b 64) (Single true (b - 32)) (Rows (b - 64)))) Absent
 
--- the slots of rule i
+-- the slots of rule i: that of its first place, and that of its second
+abbrev pub slot_at : List ℕ → ℕ → ℕ → Slot
+slot_at rules i place = slot_of (ltb place (field rules i 1)) (field rules i (2 + place))
+
 abbrev pub left_slot : List ℕ → ℕ → Slot
-left_slot rules i = slot_of (ltb 0 (field rules i 1)) (field rules i 2)
+left_slot rules i = slot_at rules i 0
 
 abbrev pub right_slot : List ℕ → ℕ → Slot
-right_slot rules i = slot_of (ltb 1 (field rules i 1)) (field rules i 3)
+right_slot rules i = slot_at rules i 1
 
 -- choice k of a slot is this form: the empty word's, a tag's own, or that of row k, where it is a row of the nonterminal
 abbrev pub Choice : Piece → Book → Slot → ℕ → Stack Piece → Piece → Type 0

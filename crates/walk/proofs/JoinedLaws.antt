@@ -6,30 +6,29 @@ use mathlib.Core.Bool.{true}
 use mathlib.Core.List.{List}
 use mathlib.Core.Logic.{◌⊎◌, inl, inr, ⊎_elim, ◌↔◌}
 use Prim.Native.Nat.{ℕ, ◌+◌, ◌<◌}
+use Rattle.std.specs.Prelude.{Option, Some, None}
 use Rattle.words.specs.Reduced.{Stack}
 use Rattle.words.specs.Reader.{Outcome, reduced, join}
 use Rattle.numbers.specs.Bits.{bit}
 use Rattle.pieces.specs.declared.Piece.{Piece}
 use Rattle.pieces.specs.Pieces.{pieces}
+use Rattle.pairs.specs.declared.Tally.{Tally}
 use Rattle.pairs.specs.Books.{book_of}
 use Rattle.pairs.specs.Slots.{left_slot, right_slot, Choice, choices}
 use Rattle.pairs.specs.Turns.{FormOf, Turned, no_forms, joined}
 use Rattle.pairs.specs.declared.Slot.{Slot}
-use Rattle.pairs.specs.declared.Turn.{Turn}
-use Rattle.pairs.specs.declared.Turn.TheVariants.{Kept, Mismatch}
 use Rattle.shares.proofs.ShareLaws.{below_next}
 use Rattle.walk.specs.Walks.{ResultOver, Walked}
 use Rattle.walk.specs.declared.Round.{Round}
-use Rattle.walk.specs.declared.Walk.TheVariants.{Stopped}
 use Rattle.walk.proofs.SlotLaws.{form_later}
 use Rattle.walk.proofs.PairingLaws.{Pairing, pairing_marked, pairing_result, pairing_proper, pairing_unique}
 use Rattle.walk.proofs.OutcomeLaws.{Next, outcome_next}
 use Rattle.walk.proofs.PlaceLaws.{LentParts, RuleParts, AtRule, Before, Place, place, Visited, Going, same, onward}
 
 -- one pair more: the walk goes on, or it stops at a mismatch
-abbrev pub AfterTurn : List ℕ → List ℕ → Round → ℕ → List ℕ → Place → Turn → List ℕ → Type 0
-AfterTurn lore rules round fresh t₀ p (Kept found) t = Going lore rules round fresh t₀ (place p.i p.j (p.k + 1) t found)
-AfterTurn lore rules round fresh t₀ p Mismatch t = Walked lore rules (book_of t₀ round.rows) Stopped t
+abbrev pub AfterTurn : List ℕ → List ℕ → Round → ℕ → List ℕ → Place → Option Tally → List ℕ → Type 0
+AfterTurn lore rules round fresh t₀ p (Some found) t = Going lore rules round fresh t₀ (place p.i p.j (p.k + 1) t found)
+AfterTurn lore rules round fresh t₀ p None t = Walked lore rules (book_of t₀ round.rows) None t
 
 -- before (i, j, k + 1): before (i, j, k), or there
 by_place : (i j k a b c : ℕ) → Before i j (k + 1) a b c → Before i j k a b c ⊎ ((a ≡ i) × (b ≡ j) × (c ≡ k))
@@ -49,11 +48,11 @@ module _ {lore rules shares t₀ : List ℕ} {round : Round} {fresh : ℕ} {p : 
   form_there = form_later (pieces lore).unit t₀ p.table round.rows (same going)
 
   -- where the walk stands after the outcome of every marked nonterminal
-  after_outcome : (o : Outcome Piece) → ((x : ℕ) → x < 64 → bit parts.marks x ≡ true → Here x o) → (r : Turn) (t : List ℕ)
+  after_outcome : (o : Outcome Piece) → ((x : ℕ) → x < 64 → bit parts.marks x ≡ true → Here x o) → (r : Option Tally) (t : List ℕ)
       → Next lore rules (ResultOver lore rules (book_of t₀ round.rows)) (Visited lore rules t₀ round p.i p.j p.k)
       (book_of t₀ round.rows) parts.marks o r t
       → AfterTurn lore rules round fresh t₀ p r t
-  after_outcome o pairing (Kept found) t w =
+  after_outcome o pairing (Some found) t w =
       record {
         begun = going.begun;
         sofar = record {
@@ -69,9 +68,9 @@ module _ {lore rules shares t₀ : List ℕ} {round : Round} {fresh : ℕ} {p : 
       here y q m =
           let (small, marked) = pairing_marked lent.in_range rule.sharing m in
           (small, marked, pairing_unique m (pairing y small marked))
-  after_outcome o pairing Mismatch t w = w
+  after_outcome o pairing None t w = w
 
-  pub joined_next : (r : Turn) (t : List ℕ)
+  pub joined_next : (r : Option Tally) (t : List ℕ)
       → Turned lore p.table (record { left = left_slot rules p.i; j = p.j; right = right_slot rules p.i; k = p.k }) parts.marks
       p.found r t
       → AfterTurn lore rules round fresh t₀ p r t

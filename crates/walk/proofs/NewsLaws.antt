@@ -2,13 +2,13 @@
 -- `search news_laws`. Then what the test is for: a new row of a nonterminal sets its mark, so that each choice of a slot that is not renewed
 -- is an old one. Assumes nothing.
 use mathlib.Core.Path.{◌≡◌, sym, ap, ◌∙◌}
-use mathlib.Core.Bool.{Bool, true, false, ◌||◌, false≢true, or-true}
+use mathlib.Core.Bool.{Bool, true, false, false≢true, or-true}
 use mathlib.Core.List.{List}
 use mathlib.Core.Logic.{⊎_elim}
 use Prim.Native.Nat.{ℕ, zero, suc, ◌+◌, ◌-◌, ◌*◌, ◌%◌, ◌≤◌, ◌<◌}
 use native.Mathlib.Decide.{dec_lt}
 use native.Mathlib.Omega.{arith}
-use lib.ListN.{get_or, take, drop}
+use lib.ListN.{take, drop}
 use borrow.Author.Rules.{rules}
 use borrow.Author.Tests.{eq-eqb}
 use Rattle.words.specs.Reduced.{Stack}
@@ -24,7 +24,7 @@ use Rattle.pairs.specs.Slots.{Choice, new_from}
 use Rattle.pairs.specs.declared.Slot.{Slot}
 use Rattle.pairs.specs.declared.Slot.TheVariants.{Absent, Single, Rows}
 use Rattle.shares.proofs.ShareLaws.{below_next}
-use Rattle.walk.specs.News.{marks_from, news, renews, PassedOver}
+use Rattle.walk.specs.News.{marks_from, news, renews}
 use Rattle.walk.proofs.ValidLaws.{or_false_right}
 
 module _ (t : List ℕ) where
@@ -81,31 +81,4 @@ module _ (t : List ℕ) where
             ∙ (rw (row_nonterminal (table_row t k) x s c r) at (news_bit prev n k (omega arith) l))))
       ]
 
--- ---- the test of a slot
-
-module _ (s : Slot) (fresh : ℕ) (first : Bool) where
-  pub renews_absent : s ≡ Absent → first ≡ renews s fresh first
-  unfolding renews
-  renews_absent e = rw e
-
-  pub renews_single : (closes : Bool) (a : ℕ) → s ≡ Single closes a → first ≡ renews s fresh first
-  unfolding renews
-  renews_single closes a e = rw e
-
-  pub renews_rows : (x w : ℕ) (t : Bool) → s ≡ Rows x → w ≡ x → t ≡ bit fresh (w % 64) → (first || t) ≡ renews s fresh first
-  unfolding renews
-  renews_rows x w t e wide q = rw (e, q, wide)
-
--- ---- the rules that are passed over
-
-pub passed_none : (shares : List ℕ) (i : ℕ) → PassedOver shares i i
-passed_none shares i = record { forward = omega arith; unmarked = λ a l h. absurd (omega arith) }
-
-pub passed_next : (shares : List ℕ) (i k : ℕ) → PassedOver shares i k → get_or shares k 0 ≤ 0 → PassedOver shares i (k + 1)
-passed_next shares i k over none =
-    record {
-      forward = omega (arith, over.forward);
-      unmarked = λ a l h. ⊎_elim (λ m. over.unmarked a l m) (λ e. rw e (omega arith)) (below_next a k h);
-    }
-
-pub ruleset news_laws = (passed_none, passed_next, news_none, news_next, news_end, renews_absent, renews_single, renews_rows, rules)
+pub ruleset news_laws = (news_none, news_next, news_end, rules)

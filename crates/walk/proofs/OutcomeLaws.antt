@@ -7,6 +7,7 @@ use mathlib.Core.Logic.{◌⊎◌, inl, inr, ⊎_elim}
 use Prim.Native.Nat.{ℕ, suc, ◌≤◌, ◌<◌}
 use native.Mathlib.Omega.{arith}
 use lib.ListN.{length, drop}
+use Rattle.std.specs.Prelude.{Option, Some, None}
 use Rattle.words.specs.Reduced.{Stack, tags}
 use Rattle.words.specs.Reader.{Outcome, reduced, differ}
 use Rattle.numbers.specs.Bits.{bit}
@@ -18,8 +19,6 @@ use Rattle.pairs.specs.Books.{Book}
 use Rattle.pairs.specs.Turns.{after_deep}
 use Rattle.pairs.specs.Turns.{FormsNoted, forms_none, forms_other, forms_more, OutcomeNoted, mismatches, is_deep, is_form}
 use Rattle.pairs.specs.declared.Tally.{Tally}
-use Rattle.pairs.specs.declared.Turn.{Turn}
-use Rattle.pairs.specs.declared.Turn.TheVariants.{Kept, Mismatch}
 use Rattle.shares.proofs.ShareLaws.{below_next}
 use Rattle.walk.specs.Walks.{ProperPair, Noted}
 use Rattle.walk.proofs.ValidLaws.{or_false_left, or_false_right, deep_invalid}
@@ -31,10 +30,10 @@ abbrev pub AlsoAll : (ℕ → Outcome Piece → Type 0) → ℕ → Outcome Piec
 AlsoAll Seen marks o k y q = Seen y q ⊎ ((y < k) × (bit marks y ≡ true) × (q ≡ o))
 
 -- what holds after a turn: the walk goes on, or it stops at an outcome of R
-abbrev pub Next : List ℕ → List ℕ → (ℕ → Outcome Piece → Type 0) → (ℕ → Outcome Piece → Type 0) → Book → ℕ → Outcome Piece → Turn → List ℕ
+abbrev pub Next : List ℕ → List ℕ → (ℕ → Outcome Piece → Type 0) → (ℕ → Outcome Piece → Type 0) → Book → ℕ → Outcome Piece → Option Tally → List ℕ
     → Type 0
-Next lore rules R Seen b marks o (Kept found) t = Sofar lore rules R (AlsoAll Seen marks o 64) b t found
-Next lore rules R Seen b marks o Mismatch t =
+Next lore rules R Seen b marks o (Some found) t = Sofar lore rules R (AlsoAll Seen marks o 64) b t found
+Next lore rules R Seen b marks o None t =
     (length t ≡ length b.table) × (drop table_long t ≡ drop table_long b.table) × ((x a c : ℕ) × R x (differ a c))
 
 module _ {lore rules : List ℕ} {R Seen : ℕ → Outcome Piece → Type 0} {b : Book} {t : List ℕ} {found : Tally}
@@ -103,7 +102,7 @@ module _ {lore rules : List ℕ} {R Seen : ℕ → Outcome Piece → Type 0} {b 
 
   pub outcome_next : ((s : Stack Piece) (c : Piece) → o ≡ reduced s c → (x : ℕ) → x < 64 → bit marks x ≡ true
       → ProperPair lore rules (record { of = x; form = s; last = c }))
-      → (r : Turn) (t' : List ℕ) → OutcomeNoted lore marks o t found r t' → Next lore rules R Seen b marks o r t'
+      → (r : Option Tally) (t' : List ℕ) → OutcomeNoted lore marks o t found r t' → Next lore rules R Seen b marks o r t'
   outcome_next proper r t' (mismatches a d e) =
       let (x, h, w) = some in
       (sofar.grown.same_length, sofar.grown.same_rest, (x, a, d, rw e at (is-result x h w)))

@@ -2,12 +2,11 @@
 -- rule i with the left choices before j, and of left choice j with the right choices before k. What it is lent, how the round begins and
 -- what is found at a rule is a record each. Assumes nothing.
 use mathlib.Core.Path.{◌≡◌}
-use mathlib.Core.Bool.{Bool, ◌&&◌, ◌||◌}
+use mathlib.Core.Bool.{Bool, ◌||◌}
 use mathlib.Core.List.{List}
 use mathlib.Core.Logic.{◌⊎◌, inl, inr, ⊎_elim}
 use Prim.Native.Nat.{ℕ, ◌/◌, ◌<◌}
 use native.Mathlib.Omega.{arith}
-use lib.Dec.{ltb}
 use lib.ListN.{length}
 use Rattle.words.specs.Reader.{Outcome}
 use Rattle.hedge.specs.Schema.{most_states}
@@ -50,15 +49,15 @@ pub record RuleParts : Type 0 where
   pub new_left : ℕ
   pub new_right : ℕ
 
--- is the rule walked: is it marked for a nonterminal, and is one of its slots renewed?
+-- is the rule walked: is one of its slots renewed?
 abbrev pub walked_at : Round → ℕ → RuleParts → Bool
-walked_at round fresh parts =
-    ltb 0 parts.marks && (renews parts.left fresh round.first || renews parts.right fresh round.first)
+walked_at round fresh parts = renews parts.left fresh round.first || renews parts.right fresh round.first
 
 -- what is known of it at rule i
 pub record AtRule (rules : List ℕ) (round : Round) (fresh i : ℕ) (parts : RuleParts) : Type 0 where
   pub is_rule : i < length rules / 4
   pub sharing : Sharing rules i parts.marks
+  pub marked : 0 < parts.marks
   pub left_is : parts.left ≡ left_slot rules i
   pub right_is : parts.right ≡ right_slot rules i
   pub lefts_is : parts.lefts ≡ lefts_of (walked_at round fresh parts) (choices parts.left round.rows)

@@ -3,12 +3,10 @@
 use mathlib.Core.Path.{◌≡◌, refl}
 use mathlib.Core.Bool.{Bool, true, false}
 use mathlib.Core.List.{List}
-use Prim.Native.Nat.{ℕ, ◌+◌, ◌*◌, ◌≤◌, ◌<◌}
+use Prim.Native.Nat.{ℕ, ◌*◌, ◌≤◌, ◌<◌}
 use native.Mathlib.Omega.{arith}
-use lib.Dec.{ltb}
 use lib.ListN.{length}
-use borrow.Author.Tests.{ltb-true}
-use Rattle.numbers.proofs.TestLaws.{and_out}
+use Rattle.std.specs.Prelude.{Option}
 use Rattle.worktable.specs.Packed.{row_width}
 use Rattle.pairs.specs.Books.{book_of}
 use Rattle.pairs.specs.Slots.{choices}
@@ -16,24 +14,15 @@ use Rattle.pairs.specs.Turns.{lefts_of, Choosable, Turned}
 use Rattle.pairs.specs.declared.Slot.{Slot}
 use Rattle.pairs.specs.declared.Slot.TheVariants.{Absent, Single, Rows}
 use Rattle.pairs.specs.declared.Tally.{Tally}
-use Rattle.pairs.specs.declared.Turn.{Turn}
-use Rattle.pairs.specs.declared.Turn.TheVariants.{Kept, Mismatch}
-use Rattle.walk.specs.Walks.{ProperRows, Walked}
+use Rattle.walk.specs.Walks.{ProperRows}
 use Rattle.walk.specs.declared.Round.{Round}
-use Rattle.walk.specs.declared.Walk.TheVariants.{Stopped}
-use Rattle.walk.proofs.ProgressLaws.{no_notes}
-use Rattle.walk.proofs.PlaceLaws.{LentParts, RuleParts, AtRule, walked_at, Begun, Place, place, Going, going_start}
+use Rattle.walk.proofs.PlaceLaws.{LentParts, RuleParts, AtRule, walked_at, Place, Going}
 use Rattle.walk.proofs.JoinedLaws.{AfterTurn, joined_next}
 
 -- a left choice below the number of those that are walked is one, and the rule is walked
 lefts_below : (walked : Bool) (j lefts all : ℕ) → lefts ≡ lefts_of walked all → j < lefts → (walked ≡ true) × (j < all)
 lefts_below true j lefts all e l = (refl, rw e at l)
 lefts_below false j lefts all e l = absurd (omega arith)
-
--- at the start, by what the loops have of it
-pub going_begun : {lore rules t₀ : List ℕ} {round : Round} {fresh i : ℕ} {t : List ℕ} {found : Tally} → Begun lore rules t₀ round fresh
-    → t ≡ t₀ → found ≡ no_notes round.rows → i ≡ 0 → Going lore rules round fresh t₀ (place i 0 0 t found)
-going_begun begun e f g = rw (e, f, g) (going_start begun)
 
 pub news_room : {lore rules t₀ : List ℕ} {n : ℕ} → ProperRows lore rules (book_of t₀ n) → n * row_width ≤ length t₀
 news_room proper = omega (arith, proper.room, proper.few)
@@ -59,18 +48,12 @@ module _ {lore rules shares : List ℕ} (lent : LentParts lore rules shares) {ro
   right_choosable l = choosable parts.right p.k (rw rule.rights_is at l)
 
   -- one pair more
-  module _ (l : p.j < parts.lefts) (h : p.k < parts.rights) {r : Turn} {t : List ℕ}
+  module _ (l : p.j < parts.lefts) (h : p.k < parts.rights) {r : Option Tally} {t : List ℕ}
       (turned : Turned lore p.table (record { left = parts.left; j = p.j; right = parts.right; k = p.k }) parts.marks p.found r t)
     where
-      after_turn : AfterTurn lore rules round fresh t₀ p r t
+      pub after_turn : AfterTurn lore rules round fresh t₀ p r t
       after_turn =
           let (e, f) =
           lefts_below (walked_at round fresh parts) p.j parts.lefts (choices parts.left round.rows) rule.lefts_is l in
-          joined_next going lent rule (ltb-true 0 parts.marks (and_out (ltb 0 parts.marks) e).0) (rw (← rule.left_is) f)
+          joined_next going lent rule rule.marked (rw (← rule.left_is) f)
           (rw (← rule.right_is, ← rule.rights_is) h) r t (rw (rule.left_is, rule.right_is) at turned)
-
-      pub turn_kept : {found : Tally} → r ≡ Kept found → Going lore rules round fresh t₀ (place p.i p.j (p.k + 1) t found)
-      turn_kept e = rw e at after_turn
-
-      pub turn_stops : r ≡ Mismatch → Walked lore rules (book_of t₀ round.rows) Stopped t
-      turn_stops e = rw e at after_turn

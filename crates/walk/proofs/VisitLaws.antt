@@ -6,22 +6,21 @@ use mathlib.Core.Bool.{Bool, true, false, false≢true}
 use mathlib.Core.List.{List}
 use mathlib.Core.Logic.{◌⊎◌, inl, inr, ⊎_elim}
 use Prim.Native.Nat.{ℕ, ◌+◌, ◌/◌, ◌≤◌, ◌<◌}
-use native.Mathlib.Decide.{dec_lt}
 use native.Mathlib.Omega.{arith}
 use lib.Dec.{ltb}
-use lib.ListN.{length}
+use lib.ListN.{length, get_or}
 use borrow.Author.Tests.{ltb-true, ltb-false}
+use Rattle.std.specs.Prelude.{Some}
 use Rattle.words.specs.Reader.{Outcome}
 use Rattle.pieces.specs.declared.Piece.{Piece}
 use Rattle.pieces.specs.Pieces.{pieces}
 use Rattle.pairs.specs.Books.{book_of}
 use Rattle.pairs.specs.Slots.{left_slot, right_slot, choices, new_from}
 use Rattle.pairs.specs.Turns.{slot_fits, left_from, right_from}
-use Rattle.shares.proofs.ShareLaws.{nothing_bit, marks_some, below_next}
-use Rattle.walk.specs.News.{news, renews, PassedOver}
+use Rattle.shares.proofs.ShareLaws.{nothing_bit, below_next}
+use Rattle.walk.specs.News.{news, renews}
 use Rattle.walk.specs.Walks.{RoundBegins, Noted, Walked}
 use Rattle.walk.specs.declared.Round.{Round}
-use Rattle.walk.specs.declared.Walk.TheVariants.{Went}
 use Rattle.walk.proofs.ValidLaws.{or_false_left, or_false_right}
 use Rattle.walk.proofs.SlotLaws.{fits_later, none_old}
 use Rattle.walk.proofs.NewsLaws.{unrenewed_old}
@@ -36,19 +35,20 @@ module _ {lore rules t₀ : List ℕ} {round : Round} {fresh : ℕ} {p : Place} 
   abbrev NotedHere : ℕ → Outcome Piece → Type 0
   NotedHere x o = Noted lore rules p.found.notes (tally_book p.table p.found) x o
 
-  -- rules that are walked for no nonterminal have no pairings, and are passed over
-  pub rules_passed : {shares : List ℕ} → LentParts lore rules shares → (i : ℕ) → PassedOver shares p.i i
-      → Going lore rules round fresh t₀ (place i 0 0 p.table p.found)
-  rules_passed {shares = shares} lent i over = onward going i 0 0 (λ a b c x o m h. at a b c x o m h (dec_lt a p.i))
+  -- a rule that is walked for no nonterminal has no pairings, and is passed over
+  pub rule_passed : {shares : List ℕ} → LentParts lore rules shares → get_or shares p.i 0 ≡ 0
+      → Going lore rules round fresh t₀ (place (p.i + 1) 0 0 p.table p.found)
+  rule_passed {shares = shares} lent none = onward going (p.i + 1) 0 0 at
     where
-      at : (a b c x : ℕ) (o : Outcome Piece) → Met a b c x o → Before i 0 0 a b c → Dec (a < p.i)
+      here : (b c x : ℕ) (o : Outcome Piece) → Met p.i b c x o → ⊥
+      here b c x o m =
+          nothing_bit x (rw none at ((pairing_marked lent.in_range (lent.all_shares.each p.i m.is_rule) m).1))
+
+      at : (a b c x : ℕ) (o : Outcome Piece) → Met a b c x o → Before (p.i + 1) 0 0 a b c
           → Before p.i p.j p.k a b c ⊎ NotedHere x o
-      at a b c x o m h (yes l) = inl (inl l)
-      at a b c x o m (inl h) (no l) =
-          let marked = (pairing_marked lent.in_range (lent.all_shares.each a m.is_rule) m).1 in
-          absurd (nothing_bit x (rw (over.unmarked a (omega arith) h) at marked))
-      at a b c x o m (inr (q, inl h)) (no l) = absurd (omega arith)
-      at a b c x o m (inr (q, inr (d, h))) (no l) = absurd (omega arith)
+      at a b c x o m (inl l) = ⊎_elim (λ g. inl (inl g)) (λ q. absurd (here b c x o (rw q at m))) (below_next a p.i l)
+      at a b c x o m (inr (q, inl l)) = absurd (omega arith)
+      at a b c x o m (inr (q, inr (d, l))) = absurd (omega arith)
 
   module _ {shares : List ℕ} (lent : LentParts lore rules shares) where
     -- a pairing of two old choices met no event
@@ -70,7 +70,7 @@ module _ {lore rules t₀ : List ℕ} {round : Round} {fresh : ℕ} {p : Place} 
             (λ d h. going.begun.proper.proper d (omega (arith, begins.older))) (pairing_old round m l l')))
 
     -- after the last rule
-    pub walk_end : length rules / 4 ≤ p.i → Walked lore rules (book_of t₀ round.rows) (Went p.found) p.table
+    pub walk_end : length rules / 4 ≤ p.i → Walked lore rules (book_of t₀ round.rows) (Some p.found) p.table
     walk_end h = (
       going.sofar.grown,
       going.sofar.happened,
@@ -108,8 +108,7 @@ module _ {lore rules t₀ : List ℕ} {round : Round} {fresh : ℕ} {p : Place} 
               let all : parts.lefts ≡ choices (left_slot rules p.i) round.rows = rw (q, rule.left_is) at rule.lefts_is in
               inl (inr (refl, inl (omega (arith, all, m.is_left))))
           here false q b c x o m =
-              let marked = (pairing_marked lent.in_range rule.sharing m).1 in
-              let none = rw (marks_some parts.marks x marked, going.begun.fresh_is, rule.left_is, rule.right_is) at q in
+              let none = rw (going.begun.fresh_is, rule.left_is, rule.right_is) at q in
               let left = or_false_left (renews (left_slot rules p.i) (news t₀ round.prev round.rows) round.first) _ none in
               let right = or_false_right (renews (left_slot rules p.i) (news t₀ round.prev round.rows) round.first) _ none in
               inr (old_noted p.i b c x o m

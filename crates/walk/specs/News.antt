@@ -1,6 +1,6 @@
 -- What a round passes over. A slot has a new choice in the first round, and later only where its nonterminal has a row that the round before
 -- found; a rule that is walked for no nonterminal has none.
-use Rattle.std.specs.Prelude.{◌≡◌, Bool, ◌||◌, List, ℕ, zero, suc, ◌+◌, ◌-◌, ◌%◌, ◌≤◌, ◌<◌, get_or}
+use Rattle.std.specs.Prelude.{Bool, ◌||◌, List, ℕ, zero, suc, ◌+◌, ◌-◌, ◌%◌}
 use Rattle.numbers.specs.Bits.{bit}
 use Rattle.useful.specs.Marks.{with_mark}
 use Rattle.worktable.specs.Packed.{nonterminal_in}
@@ -20,8 +20,3 @@ unfoldable pub renews : Slot → ℕ → Bool → Bool
 renews Absent fresh first = first
 renews (Single closes a) fresh first = first
 renews (Rows x) fresh first = first || bit fresh (x % 64)
-
--- the rules from the i-th up to the r-th are walked for no nonterminal
-pub record PassedOver (shares : List ℕ) (i r : ℕ) : Type 0 where
-  pub forward : i ≤ r
-  pub unmarked : (a : ℕ) → i ≤ a → a < r → get_or shares a 0 ≡ 0

@@ -1,7 +1,7 @@
 -- One round's walk: the rules, and for each the pairs of images on its right side. Rules, section 8: only a mismatch ends it at once.
 -- Invalid pages, strings that are too deep and images past 256 are noted, and the walk goes on. The book's rows
 -- are the images before the round; what the walk finds new goes behind them.
-use Rattle.std.specs.Prelude.{◌≡◌, true, false, List, ℕ, ◌≤◌, ◌<◌, length, drop}
+use Rattle.std.specs.Prelude.{◌≡◌, true, false, Option, Some, None, List, ℕ, ◌≤◌, ◌<◌, length, drop}
 use Rattle.words.specs.Reduced.{Stack, tags, GoodStack}
 use Rattle.words.specs.Reader.{Outcome, reduced, differ}
 use Rattle.lore.specs.Lore.{states_in}
@@ -16,9 +16,8 @@ use Rattle.trees.specs.Results.{Result}
 use Rattle.worktable.specs.Packed.{most_images, table_long, PairRow}
 use Rattle.pairs.specs.Books.{Book, book_of, table_row, Tabled}
 use Rattle.pairs.specs.declared.Notes.{Notes}
+use Rattle.pairs.specs.declared.Tally.{Tally}
 use Rattle.walk.specs.declared.Round.{Round}
-use Rattle.walk.specs.declared.Walk.{Walk}
-use Rattle.walk.specs.declared.Walk.TheVariants.{Stopped, Went}
 
 -- a page's form
 abbrev pub ValidForm : List ℕ → Stack Piece → Piece → Type 0
@@ -83,11 +82,11 @@ module _ (lore rules : List ℕ) where
     pub found : (k : ℕ) → b.rows ≤ k → k < b'.rows
         → (p : Pair Piece) × PairRow (table_row b'.table k) p × R p.of (reduced p.form p.last) × (tags p.form ≤ most_tags)
 
-  -- the walk's reply and the table after it
-  abbrev pub Walked : Book → Walk → List ℕ → Type 0
-  Walked b Stopped t' =
+  -- the walk's tally, or none where a mismatch stopped it, and the table after it
+  abbrev pub Walked : Book → Option Tally → List ℕ → Type 0
+  Walked b None t' =
       (length t' ≡ length b.table) × (drop table_long t' ≡ drop table_long b.table) × ((x a c : ℕ) × ResultOver b x (differ a c))
-  Walked b (Went tally) t' =
+  Walked b (Some tally) t' =
       Grown (ResultOver b) b (book_of t' tally.rows)
       × Happened (ResultOver b) tally.notes (book_of t' tally.rows)
       × ((x : ℕ) (o : Outcome Piece) → ResultOver b x o → Noted tally.notes (book_of t' tally.rows) x o)

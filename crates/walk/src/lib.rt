@@ -11,50 +11,36 @@ ghost use Rattle.template.specs.Layout.{most_rules};
 ghost use Rattle.useful.specs.Marks.{RulesInRange};
 ghost use Rattle.worktable.specs.Packed.{row_width, most_images};
 ghost use Rattle.pairs.specs.Books.{book_of};
-ghost use Rattle.pairs.specs.Slots.{left_slot, right_slot, choices, new_from};
+ghost use Rattle.pairs.specs.Slots.{slot_at, choices, new_from};
 ghost use Rattle.pairs.specs.Turns.{slot_fits, lefts_of, left_from, right_from, Choosable};
 ghost use Rattle.shares.specs.Shares.{Shares};
-ghost use Rattle.walk.specs.News.{news, renews, PassedOver};
+ghost use Rattle.walk.specs.News.{news, renews};
 ghost use Rattle.walk.specs.Walks.{ProperRows, RoundBegins, Walked};
 
 // Where a round begins: so many rows were there two rounds ago, so many are there now, and whether it is the first round.
-#[derive(Clone, Copy)]
+#[derive(Clone, Copy, Debug, PartialEq, Eq)]
 pub struct Round {
     pub prev: usize,
     pub rows: usize,
     pub first: bool,
 }
 
-// Stopped at the first mismatch, or went through, with this tally.
-#[derive(Clone, Copy)]
-pub enum Walk {
-    Stopped,
-    Went(pairs::Tally),
-}
-
-// The slots of the right side of rule i.
-fn left_slot(rules: &[u8], i: usize) -> pairs::Slot
-    requires { i < length rules.now / 4 }
-    ensures { result ≡ left_slot rules.now i }
+// The slot of a place of rule i's right side, its first or its second.
+fn slot(rules: &[u8], i: usize, place: usize) -> pairs::Slot
+    requires in_bounds { i < length rules.now / 4 }
+    requires two_places { place < 2 }
+    ensures { result ≡ slot_at rules.now i place }
 {
     let at = i * 4;
-    pairs::slot_of(0 < rules[at + 1], rules[at + 2])
+    pairs::slot_of(place < usize::from(rules[at + 1]), rules[at + 2 + place])
 }
 
-fn right_slot(rules: &[u8], i: usize) -> pairs::Slot
-    requires { i < length rules.now / 4 }
-    ensures { result ≡ right_slot rules.now i }
-{
-    let at = i * 4;
-    pairs::slot_of(1 < rules[at + 1], rules[at + 3])
-}
-
+// How many choices a slot has among n rows.
 fn choices(s: pairs::Slot, n: usize) -> usize
     ensures { result ≡ choices s n }
 {
     match s {
-        pairs::Slot::Absent => 1,
-        pairs::Slot::Single(_, _) => 1,
+        pairs::Slot::Absent | pairs::Slot::Single(_, _) => 1,
         pairs::Slot::Rows(_) => n,
     }
 }
@@ -64,8 +50,7 @@ fn new_from(s: pairs::Slot, prev: usize, first: bool) -> usize
     ensures { result ≡ new_from s prev first }
 {
     match s {
-        pairs::Slot::Absent => { if first { 0 } else { 1 } }
-        pairs::Slot::Single(_, _) => { if first { 0 } else { 1 } }
+        pairs::Slot::Absent | pairs::Slot::Single(_, _) => usize::from(!first),
         pairs::Slot::Rows(_) => prev,
     }
 }
@@ -107,31 +92,29 @@ fn news(table: &[u64], a: usize, e: usize) -> u64
     ensures { result ≡ news table.now a e }
 {
     let mut marks = 0u64;
-    let mut k = a;
-    while k < e {
+    for k in a..e {
         let at = k * worktable::ROW;
         let to = at + worktable::ROW;
         marks = useful::mark(
             marks,
-            numbers::wide(worktable::nonterminal(&table[at..to])) % 64,
+            usize::from(worktable::nonterminal(&table[at..to])) % 64,
         );
-        k += 1;
     }
     marks
 }
 
 // Has the slot a new choice: is it the first round, or has its nonterminal a new row?
+#[tactic(auto, unfolding(crate::specs::News::renews))]
 fn renews(s: pairs::Slot, fresh: u64, first: bool) -> bool
     ensures { result ≡ renews s fresh first }
 {
     match s {
-        pairs::Slot::Absent => first,
-        pairs::Slot::Single(_, _) => first,
-        pairs::Slot::Rows(x) => first | useful::marked(fresh, numbers::wide(x) % 64),
+        pairs::Slot::Absent | pairs::Slot::Single(_, _) => first,
+        pairs::Slot::Rows(x) => first | useful::marked(fresh, usize::from(x) % 64),
     }
 }
 
-// How many left choices a rule has in the walk: none where it is walked for no nonterminal, or neither slot has a new choice.
+// How many left choices a rule has in the walk: none where neither slot has a new choice.
 fn lefts_of(walked: bool, left: pairs::Slot, n: usize) -> usize
     ensures { result ≡ lefts_of walked (choices left n) }
 {
@@ -141,29 +124,14 @@ fn lefts_of(walked: bool, left: pairs::Slot, n: usize) -> usize
     0
 }
 
-// The first rule from the i-th on that is walked for some nonterminal, or the n-th: any other costs one look.
-fn next_walked(shares: &[u64; template::RULES], i: usize, n: usize) -> usize
-    requires { (i ≤ n) × (n ≤ most_rules) }
-    ensures { PassedOver shares.now i result × (result ≤ n) }
-{
-    let mut k = i;
-    while k < n {
-        if 0 < shares[k] {
-            return k;
-        }
-        k += 1;
-    }
-    k
-}
-
-// The walk of one round.
+// The walk of one round: its tally, or none where a mismatch stopped it.
 pub fn walk_round(
     rules: &[u8],
     lore: &[u64; lore::LORE],
     shares: &[u64; template::RULES],
     table: &mut [u64],
     round: Round,
-) -> Walk
+) -> Option<pairs::Tally>
     requires lore { IsLore most_states lore.now }
     requires rules_in_range { RulesInRange rules.now }
     requires shares { Shares rules.now shares.now }
@@ -184,39 +152,30 @@ pub fn walk_round(
             crowded: false,
         },
     };
-    let mut i = 0;
-    let event = 'walk: loop {
-        while i < rules.len() / 4 {
+    let event = 'walk: {
+        for i in 0..rules.len() / 4 {
             let marks = shares[i];
-            let left = left_slot(rules, i);
-            let right = right_slot(rules, i);
-            let walked = (0 < marks) & (renews(left, fresh, first) | renews(right, fresh, first));
+            if marks == 0 {
+                continue;
+            }
+            let left = slot(rules, i, 0);
+            let right = slot(rules, i, 1);
+            let walked = renews(left, fresh, first) | renews(right, fresh, first);
             let lefts = lefts_of(walked, left, n);
             let rights = choices(right, n);
             let new_left = new_from(left, prev, first);
             let new_right = new_from(right, prev, first);
-            let mut j = left_from(new_left, new_right, rights);
-            while j < lefts {
-                let mut k = right_from(left, j, table, new_left, new_right, rights);
-                while k < rights {
-                    let pair = pairs::Selection {
-                        left: left,
-                        j: j,
-                        right: right,
-                        k: k,
-                    };
-                    let t = pairs::one_turn(lore, pair, marks, table, found);
-                    let pairs::Turn::Kept(tally) = t else {
-                        break 'walk Walk::Stopped;
+            for j in left_from(new_left, new_right, rights)..lefts {
+                for k in right_from(left, j, table, new_left, new_right, rights)..rights {
+                    let pair = pairs::Selection { left, j, right, k };
+                    let Some(tally) = pairs::one_turn(lore, pair, marks, table, found) else {
+                        break 'walk None;
                     };
                     found = tally;
-                    k += 1;
                 }
-                j += 1;
             }
-            i = next_walked(shares, i + 1, rules.len() / 4);
         }
-        break 'walk Walk::Went(found);
+        Some(found)
     };
     event
 }

@@ -9,9 +9,9 @@ use Rattle.hedge.specs.Schema.{most_states}
 use Rattle.lore.specs.Lore.{IsLore}
 use Rattle.useful.specs.Marks.{RulesInRange}
 use Rattle.shares.specs.Shares.{Shares}
-use Rattle.walk.proofs.PlaceLaws.{LentParts, AtRule}
-use Rattle.walk.proofs.VisitLaws.{left_start, right_start, right_end, left_end, rules_passed, walk_end}
-use Rattle.walk.proofs.RoundLaws.{going_begun, news_room, left_choosable, right_choosable, turn_kept, turn_stops}
+use Rattle.walk.proofs.PlaceLaws.{LentParts, AtRule, going_start}
+use Rattle.walk.proofs.VisitLaws.{left_start, right_start, right_end, left_end, rule_passed, walk_end}
+use Rattle.walk.proofs.RoundLaws.{news_room, left_choosable, right_choosable, after_turn}
 use Rattle.walk.proofs.walk_round.Invariants.{parts_of}
 use Rattle.walk.proofs.walk_round.Goals as goal
 
@@ -21,25 +21,26 @@ lent l r s = record { is_lore = l; in_range = r; all_shares = s }
 pub news-fresh-requires : goal.news-fresh-requires
 news-fresh-requires c = news_room c.requires.proper_rows
 
-pub walk-init : goal.walk-init
-walk-init c = (refl, refl, refl)
-
 pub loop-i-init : goal.loop-i-init
 loop-i-init c =
-    going_begun (record { proper = c.requires.proper_rows; begins = c.requires.round_begins; fresh_is = c.news-fresh.ensures })
-    c.walk.invariant.0 c.walk.invariant.1 c.walk.invariant.2
+    going_start (record { proper = c.requires.proper_rows; begins = c.requires.round_begins; fresh_is = c.news-fresh.ensures })
+
+pub loop-i-preserved-then-marks-eq0 : goal.loop-i-preserved-then-marks-eq0
+loop-i-preserved-then-marks-eq0 c =
+    rule_passed c.loop-i.invariant (lent c.requires.lore c.requires.rules_in_range c.requires.shares) c.if-marks-eq0.true
 
 pub loop-j-init : goal.loop-j-init
 loop-j-init c =
     let known = lent c.requires.lore c.requires.rules_in_range c.requires.shares in
     let rule : AtRule c.args.rules.now c.args.round c.news-fresh.result c.loop-i.i (
-    parts_of (get_or c.args.shares.now c.loop-i.i 0) c.left_slot-left.result c.right_slot-right.result c.lefts_of-lefts.result
+    parts_of (get_or c.args.shares.now c.loop-i.i 0) c.slot-left.result c.slot-right.result c.lefts_of-lefts.result
     c.choices-rights.result c.new_from-new_left.result c.new_from-new_right.result) =
     record {
       is_rule = c.loop-i-test.true;
       sharing = c.requires.shares.each c.loop-i.i c.loop-i-test.true;
-      left_is = c.left_slot-left.ensures;
-      right_is = c.right_slot-right.ensures;
+      marked = omega (arith, c.if-marks-eq0.false);
+      left_is = c.slot-left.ensures;
+      right_is = c.slot-right.ensures;
       lefts_is = rw (← c.renews.ensures, ← c.renews-in-loop-i.ensures) c.lefts_of-lefts.ensures;
       rights_is = c.choices-rights.ensures;
       new_left = c.new_from-new_left.ensures;
@@ -59,8 +60,8 @@ loop-k-init c = (
       refl _ c.right_from-k.ensures,
 )
 
-pub one_turn-t-requires : goal.one_turn-t-requires
-one_turn-t-requires c =
+pub one_turn-requires : goal.one_turn-requires
+one_turn-requires c =
     let known = lent c.requires.lore c.requires.rules_in_range c.requires.shares in
     let (rule, going) = c.loop-k.invariant in
     let proper = going.sofar.grown.proper_rows in
@@ -75,8 +76,8 @@ one_turn-t-requires c =
 pub loop-k-preserved : goal.loop-k-preserved
 loop-k-preserved c = (
   c.loop-k.invariant.0,
-  turn_kept (lent c.requires.lore c.requires.rules_in_range c.requires.shares) c.loop-k.invariant.0 c.loop-k.invariant.1
-      c.loop-j-test.true c.loop-k-test.true c.one_turn-t.ensures c.in-Kept.is,
+  after_turn (lent c.requires.lore c.requires.rules_in_range c.requires.shares) c.loop-k.invariant.0 c.loop-k.invariant.1
+      c.loop-j-test.true c.loop-k-test.true c.in-Some.ensures,
 )
 
 pub loop-j-preserved : goal.loop-j-preserved
@@ -86,22 +87,15 @@ loop-j-preserved c = (
       c.loop-k-test.false,
 )
 
-pub next_walked-i-requires : goal.next_walked-i-requires
-next_walked-i-requires c = (omega (arith, c.loop-j.invariant.0.is_rule), c.requires.rules_len_bound)
-
-pub loop-i-smaller : goal.loop-i-smaller
-loop-i-smaller c = omega (arith, c.next_walked-i.ensures.0.forward, c.next_walked-i.ensures.1)
-
 pub loop-i-preserved : goal.loop-i-preserved
 loop-i-preserved c =
-    let known = lent c.requires.lore c.requires.rules_in_range c.requires.shares in
-    rules_passed (left_end c.loop-j.invariant.1 known c.loop-j.invariant.0 c.loop-j-test.false refl) known _
-    c.next_walked-i.ensures.0
+    left_end c.loop-j.invariant.1 (lent c.requires.lore c.requires.rules_in_range c.requires.shares) c.loop-j.invariant.0
+    c.loop-j-test.false refl
 
 pub returns-in_default : goal.returns-in_default
 returns-in_default c =
-    turn_stops (lent c.requires.lore c.requires.rules_in_range c.requires.shares) c.loop-k.invariant.0 c.loop-k.invariant.1
-    c.loop-j-test.true c.loop-k-test.true c.one_turn-t.ensures c.in_default.is
+    after_turn (lent c.requires.lore c.requires.rules_in_range c.requires.shares) c.loop-k.invariant.0 c.loop-k.invariant.1
+    c.loop-j-test.true c.loop-k-test.true c.in_default.ensures
 
 pub returns-after-loop-i : goal.returns-after-loop-i
 returns-after-loop-i c = walk_end c.loop-i.invariant (lent c.requires.lore c.requires.rules_in_range c.requires.shares) c.loop-i-test.false

@@ -1,10 +1,7 @@
-use mathlib.Core.Path.{◌≡◌}
 use mathlib.Core.Bool.{Bool}
-use Prim.Native.Nat.{ℕ, ◌-◌, ◌/◌}
-use lib.ListN.{length}
+use Prim.Native.Nat.{ℕ}
 use Rattle.pairs.specs.declared.Slot.{Slot}
 use Rattle.walk.specs.declared.Round.{Round}
-use Rattle.walk.proofs.ProgressLaws.{no_notes}
 use Rattle.walk.proofs.PlaceLaws.{RuleParts, AtRule, place, Going}
 use Rattle.walk.proofs.walk_round.Given as goal
 
@@ -30,27 +27,12 @@ invariant-loop-k l =
     AtRule l.rules (round_of l.prev l.n l.first) l.fresh l.i (parts_of l.marks l.left l.right l.lefts l.rights l.new_left l.new_right)
     × Going l.lore l.rules (round_of l.prev l.n l.first) l.fresh l.fn.table (place l.i l.j l.k l.table l.found)
 
-abbrev pub decreases-loop-k : goal.decreases-loop-k
-decreases-loop-k l = l.rights - l.k
-
 -- at this left choice
 abbrev pub invariant-loop-j : goal.invariant-loop-j
 invariant-loop-j l =
     AtRule l.rules (round_of l.prev l.n l.first) l.fresh l.i (parts_of l.marks l.left l.right l.lefts l.rights l.new_left l.new_right)
     × Going l.lore l.rules (round_of l.prev l.n l.first) l.fresh l.fn.table (place l.i l.j 0 l.table l.found)
 
-abbrev pub decreases-loop-j : goal.decreases-loop-j
-decreases-loop-j l = l.lefts - l.j
-
 -- before this rule
 abbrev pub invariant-loop-i : goal.invariant-loop-i
 invariant-loop-i l = Going l.lore l.rules (round_of l.prev l.n l.first) l.fresh l.fn.table (place l.i 0 0 l.table l.found)
-
-abbrev pub decreases-loop-i : goal.decreases-loop-i
-decreases-loop-i l = length l.rules / 4 - l.i
-
-abbrev pub invariant-walk : goal.invariant-walk
-invariant-walk l = (l.table ≡ l.fn.table) × (l.found ≡ no_notes l.n) × (l.i ≡ 0)
-
-abbrev pub decreases-walk : goal.decreases-walk
-decreases-walk l = 0
