@@ -1,10 +1,11 @@
 -- What round r + 1 decides after its walk, from the state after round r: an event that the walk met decides, since it is one of the round's
 -- and no lower one is. Without event the rounds pass where no row came, and stand after round r + 1 where one did. Assumes nothing.
-use mathlib.Core.Path.{◌≡◌, refl, sym, ◌∙◌}
+use mathlib.Core.Path.{◌≡◌, sym, ◌∙◌}
 use mathlib.Core.List.{List}
 use Prim.Native.Nat.{ℕ, suc, ◌≤◌, ◌<◌}
 use native.Mathlib.Decide.{dec_lt}
 use native.Mathlib.Omega.{arith}
+use Rattle.std.specs.Prelude.{Option, Some, None, Ok, Err}
 use Rattle.hedge.specs.Schema.{Valid}
 use Rattle.pieces.specs.Pieces.{most_tags}
 use Rattle.template.specs.Order.{IsSound}
@@ -14,8 +15,6 @@ use Rattle.trees.proofs.EventLaws.{no_event_below, no_event}
 use Rattle.worktable.specs.Packed.{most_images}
 use Rattle.pairs.specs.Books.{book_of}
 use Rattle.pairs.specs.declared.Tally.{Tally}
-use Rattle.walk.specs.declared.Walk.{Walk}
-use Rattle.walk.specs.declared.Walk.TheVariants.{Stopped, Went}
 use Rattle.rounds.specs.declared.Event.{Event}
 use Rattle.rounds.specs.declared.Event.TheVariants as event
 use Rattle.rounds.specs.Checks.{RuleOf, EventOf, NewOf}
@@ -28,17 +27,12 @@ use Rattle.rounds.proofs.WalkedLaws.{went_crowded, went_room, older_tabled, tabl
 abbrev pub DecidesUnder : List ℕ → ℕ → Decision → Type 0
 DecidesUnder f = Decides (EventOf f) (NewOf f)
 
--- the number of an event, where it is one
+-- the number of an event
 abbrev pub event_number : Event → ℕ
 event_number event.Mismatch = 1
 event_number event.Invalid = 2
 event_number event.TooDeep = 3
 event_number event.Crowded = 4
-event_number (event.Quiet m) = 0
-
--- some event was met
-abbrev pub Decisive : Event → Type 0
-Decisive e = (m : ℕ) → e ≡ event.Quiet m → ⊥
 
 module _ (f lore t₀ t t' : List ℕ) (sound : IsSound f) (taught : LoreOf f lore) (r prev n : ℕ)
     (state : AfterRound f lore t₀ t r prev n) where
@@ -50,7 +44,7 @@ module _ (f lore t₀ t t' : List ℕ) (sound : IsSound f) (taught : LoreOf f lo
       → (4 < k → CrowdedOf f (suc r) → ⊥) → (j : ℕ) → j < k → EventOf f (suc r) j → ⊥
   none_below = no_event_below (RuleOf f) (binoid_of f) (Valid (schema_of f)) most_tags most_images (suc r)
 
-  module _ (tally : Tally) (walked : WalkedOver f lore (book_of t n) (Went tally) t') where
+  module _ (tally : Tally) (walked : WalkedOver f lore (book_of t n) (Some tally) t') where
     matched : MismatchOf f (suc r) → ⊥
     matched = went_matched f lore sound taught t t' n r state.rows quiet tally walked
 
@@ -59,33 +53,32 @@ module _ (f lore t₀ t t' : List ℕ) (sound : IsSound f) (taught : LoreOf f lo
     next_met : (k : ℕ) → EventOf f (suc r) k → ((j : ℕ) → j < k → EventOf f (suc r) j → ⊥) → DecidesUnder f budget (met (suc r) k)
     next_met k e lowest = (omega arith, omega (arith, h), state.went, e, lowest)
 
-    pub event_decides : (w : Walk) (e : Event) → WalkedOver f lore (book_of t n) w t' → Met w e → Decisive e
+    pub event_decides : (w : Option Tally) (e : Event) → WalkedOver f lore (book_of t n) w t' → Met w (Err e)
         → DecidesUnder f budget (met (suc r) (event_number e))
-    event_decides Stopped event.Mismatch walked told decisive =
+    event_decides None event.Mismatch walked told =
         next_met 1 (stopped_mismatch f lore sound taught t t' n r state.rows quiet walked)
         (none_below 1 (λ l. absurd (omega (arith, l))) (λ l. absurd (omega (arith, l))) (λ l. absurd (omega (arith, l)))
         (λ l. absurd (omega (arith, l))))
-    event_decides Stopped event.Invalid walked told decisive = absurd told
-    event_decides Stopped event.TooDeep walked told decisive = absurd told
-    event_decides Stopped event.Crowded walked told decisive = absurd told
-    event_decides (Went tally) event.Mismatch walked told decisive = absurd told
-    event_decides (Went tally) event.Invalid walked invalid decisive =
+    event_decides None event.Invalid walked told = absurd told
+    event_decides None event.TooDeep walked told = absurd told
+    event_decides None event.Crowded walked told = absurd told
+    event_decides (Some tally) event.Mismatch walked told = absurd told
+    event_decides (Some tally) event.Invalid walked invalid =
         next_met 2 (went_invalid f lore sound taught t t' n r state.rows quiet tally walked invalid)
         (none_below 2 (λ l. matched tally walked) (λ l. absurd (omega (arith, l))) (λ l. absurd (omega (arith, l)))
         (λ l. absurd (omega (arith, l))))
-    event_decides (Went tally) event.TooDeep walked (valid, deep) decisive =
+    event_decides (Some tally) event.TooDeep walked (valid, deep) =
         next_met 3 (went_deep f lore sound taught t t' n r state.rows quiet tally walked deep)
         (none_below 3 (λ l. matched tally walked) (λ l. went_valid f lore sound taught t t' n r state.rows quiet tally walked valid)
         (λ l. absurd (omega (arith, l))) (λ l. absurd (omega (arith, l))))
-    event_decides (Went tally) event.Crowded walked (valid, shallow, crowded) decisive =
+    event_decides (Some tally) event.Crowded walked (valid, shallow, crowded) =
         next_met 4 (went_crowded f lore sound taught t t' n r state.rows quiet tally walked crowded)
         (none_below 4 (λ l. matched tally walked) (λ l. went_valid f lore sound taught t t' n r state.rows quiet tally walked valid)
         (λ l. went_shallow f lore sound taught t t' n r state.rows quiet tally walked shallow) (λ l. absurd (omega (arith, l))))
-    event_decides w (event.Quiet m) walked told decisive = absurd (decisive m refl)
 
   -- ---- no event
 
-  module _ (tally : Tally) (walked : WalkedOver f lore (book_of t n) (Went tally) t') (m : ℕ) (none : Met (Went tally) (event.Quiet m)) where
+  module _ (tally : Tally) (walked : WalkedOver f lore (book_of t n) (Some tally) t') (m : ℕ) (none : Met (Some tally) (Ok m)) where
     pub next_quiet : Quiet (EventOf f) (NewOf f) (suc r)
     next_quiet =
         let (valid, shallow, room, count) = none in

@@ -7,6 +7,7 @@ use mathlib.Core.Logic.{◌⊎◌, inl, inr}
 use Prim.Native.Nat.{ℕ, zero, suc, ◌≤◌, ◌<◌}
 use native.Mathlib.Omega.{arith}
 use lib.ListN.{length}
+use Rattle.std.specs.Prelude.{Ok, Err}
 use Rattle.template.specs.Order.{IsSound, reading}
 use Rattle.template.specs.Order.{faulty}
 use Rattle.template.proofs.ShapeLaws.{sound_not_bad}
@@ -14,8 +15,9 @@ use Rattle.trees.specs.Verdict.{Decision, met, passed, used, Decides}
 use Rattle.trees.proofs.BudgetLaws.{decides_unique}
 use Rattle.rows.proofs.SortLaws.{ascending_unique}
 use Rattle.worktable.specs.Packed.{table_long}
-use Rattle.rounds.specs.declared.CheckReply.{CheckReply}
-use Rattle.rounds.specs.declared.CheckReply.TheVariants as check
+use Rattle.rounds.specs.declared.Passed.{Passed}
+use Rattle.rounds.specs.declared.CheckRefusal.TheVariants as check
+use Rattle.rounds.specs.Replies.{CheckReply}
 use Rattle.rounds.specs.Checks.{EventOf, NewOf, HasPage, Rows, most_rounds, after_pass, zeroed, Lent, Decided, CheckSays}
 use Rattle.rounds.proofs.ListedLaws.{pair_one_row}
 
@@ -62,25 +64,25 @@ module _ (f t : List ℕ) (budget : ℕ) where
   -- the answer of a decision, and the table
   abbrev pub Answered : Decision → Promise
   Answered (met r zero) s u = ⊥
-  Answered (met r (suc zero)) s u = Exactly (check.Mismatch r) (zeroed t) s u
-  Answered (met r (suc (suc zero))) s u = Exactly (check.Invalid r) (zeroed t) s u
-  Answered (met r (suc (suc (suc zero)))) s u = Exactly (check.TooDeep r) (zeroed t) s u
-  Answered (met r (suc (suc (suc (suc zero))))) s u = Exactly (check.Crowded r) (zeroed t) s u
+  Answered (met r (suc zero)) s u = Exactly (Err (check.Mismatch r)) (zeroed t) s u
+  Answered (met r (suc (suc zero))) s u = Exactly (Err (check.Invalid r)) (zeroed t) s u
+  Answered (met r (suc (suc (suc zero)))) s u = Exactly (Err (check.TooDeep r)) (zeroed t) s u
+  Answered (met r (suc (suc (suc (suc zero))))) s u = Exactly (Err (check.Crowded r)) (zeroed t) s u
   Answered (met r (suc (suc (suc (suc (suc k)))))) s u = ⊥
-  Answered (passed r) s u = (rows : List (List ℕ)) × Rows f r rows × Exactly (check.Passed r (length rows)) (after_pass rows t) s u
-  Answered used s u = Exactly (check.OutOfRounds budget) (zeroed t) s u
+  Answered (passed r) s u = (rows : List (List ℕ)) × Rows f r rows × Exactly (Ok (record { rounds = r; images = length rows })) (after_pass rows t) s u
+  Answered used s u = Exactly (Err (check.OutOfRounds budget)) (zeroed t) s u
 
   answered_unique : (d : Decision) → Unique (Answered d)
   answered_unique (met q zero) = λ r s u v a b. absurd a
-  answered_unique (met q (suc zero)) = exactly_unique (check.Mismatch q) (zeroed t)
-  answered_unique (met q (suc (suc zero))) = exactly_unique (check.Invalid q) (zeroed t)
-  answered_unique (met q (suc (suc (suc zero)))) = exactly_unique (check.TooDeep q) (zeroed t)
-  answered_unique (met q (suc (suc (suc (suc zero))))) = exactly_unique (check.Crowded q) (zeroed t)
+  answered_unique (met q (suc zero)) = exactly_unique (Err (check.Mismatch q)) (zeroed t)
+  answered_unique (met q (suc (suc zero))) = exactly_unique (Err (check.Invalid q)) (zeroed t)
+  answered_unique (met q (suc (suc (suc zero)))) = exactly_unique (Err (check.TooDeep q)) (zeroed t)
+  answered_unique (met q (suc (suc (suc (suc zero))))) = exactly_unique (Err (check.Crowded q)) (zeroed t)
   answered_unique (met q (suc (suc (suc (suc (suc k)))))) = λ r s u v a b. absurd a
   answered_unique (passed q) = λ r s u v (rows, x, a) (rows', y, b).
-      exactly_unique (check.Passed q (length rows)) (after_pass rows t) r s u v a
-      (subst (λ (l : List (List ℕ)). Exactly (check.Passed q (length l)) (after_pass l t) s v) (rows_unique f q rows' rows y x) b)
-  answered_unique used = exactly_unique (check.OutOfRounds budget) (zeroed t)
+      exactly_unique (Ok (record { rounds = q; images = length rows })) (after_pass rows t) r s u v a
+      (subst (λ (l : List (List ℕ)). Exactly (Ok (record { rounds = q; images = length l })) (after_pass l t) s v) (rows_unique f q rows' rows y x) b)
+  answered_unique used = exactly_unique (Err (check.OutOfRounds budget)) (zeroed t)
 
   -- the rounds
   abbrev pub Rounded : Promise
@@ -95,31 +97,31 @@ module _ (f t : List ℕ) (budget : ℕ) where
   Faulty = (p : ℕ) × (reading f ≡ faulty p)
 
   abbrev pub Faulted : Promise
-  Faulted s u = (p : ℕ) × (reading f ≡ faulty p) × Exactly (check.BadFile p) t s u
+  Faulted s u = (p : ℕ) × (reading f ≡ faulty p) × Exactly (Err (check.BadFile p)) t s u
 
   faulted_unique : Unique Faulted
   faulted_unique r s u v (p, e, (a, b)) (q, d, (a', b')) =
       let same : p ≡ q = cc (sym e ∙ d) in
-      (a ∙ (ap check.BadFile same ∙ sym a'), b ∙ sym b')
+      (a ∙ (ap (λ (k : ℕ). Err (check.BadFile k)) same ∙ sym a'), b ∙ sym b')
 
   -- all in their order
   abbrev pub NoBudget : Type 0
   NoBudget = (1 ≤ budget) × (budget ≤ most_rounds) → ⊥
 
   abbrev pub Paged : Promise
-  Paged = Either (HasPage f → ⊥) (Exactly check.NoPage t) Rounded
+  Paged = Either (HasPage f → ⊥) (Exactly (Err check.NoPage) t) Rounded
 
   abbrev pub OrderedPromise : Promise
   OrderedPromise =
-      Either (length t < table_long) (Exactly check.ShortTable t)
-      (Either NoBudget (Exactly check.BadBudget t) (Either Faulty Faulted Paged))
+      Either (length t < table_long) (Exactly (Err check.ShortTable) t)
+      (Either NoBudget (Exactly (Err check.BadBudget) t) (Either Faulty Faulted Paged))
 
   pub ordered_unique : Unique OrderedPromise
   ordered_unique =
-      either_unique (length t < table_long) (Exactly check.ShortTable t) _ (exactly_unique check.ShortTable t)
-      (either_unique NoBudget (Exactly check.BadBudget t) _ (exactly_unique check.BadBudget t)
+      either_unique (length t < table_long) (Exactly (Err check.ShortTable) t) _ (exactly_unique (Err check.ShortTable) t)
+      (either_unique NoBudget (Exactly (Err check.BadBudget) t) _ (exactly_unique (Err check.BadBudget) t)
       (either_unique Faulty Faulted _ faulted_unique
-      (either_unique (HasPage f → ⊥) (Exactly check.NoPage t) Rounded (exactly_unique check.NoPage t) rounded_unique)))
+      (either_unique (HasPage f → ⊥) (Exactly (Err check.NoPage) t) Rounded (exactly_unique (Err check.NoPage) t) rounded_unique)))
 
   -- ---- every promise stands in the order
 
@@ -132,18 +134,20 @@ module _ (f t : List ℕ) (budget : ℕ) where
   decided_ordered : (d : Decision) (s : CheckReply) (u : List ℕ) → Decided f t budget d → Answered d s u → OrderedPromise s u
   decided_ordered d s u (lent, sound, page, decides) a = sound_ordered s u lent sound (inr (λ none. none page, (d, decides, a)))
 
+  passes : (p : Passed) (n : ℕ) → p.images ≡ n → ◌≡◌ {A = CheckReply} (Ok p) (Ok (record { rounds = p.rounds; images = n }))
+  passes p n e = ap (λ (k : ℕ). Ok (record { rounds = p.rounds; images = k })) e
+
   pub says_ordered : (s : CheckReply) (u : List ℕ) → CheckSays f t budget s u → OrderedPromise s u
-  says_ordered (check.Passed r n) u (d, (rows, x, e, h)) =
-      decided_ordered (passed r) (check.Passed r n) u d (rows, x, (ap (check.Passed r) e, h))
-  says_ordered (check.Mismatch r) u (d, h) = decided_ordered (met r 1) (check.Mismatch r) u d (refl, h)
-  says_ordered (check.Invalid r) u (d, h) = decided_ordered (met r 2) (check.Invalid r) u d (refl, h)
-  says_ordered (check.TooDeep r) u (d, h) = decided_ordered (met r 3) (check.TooDeep r) u d (refl, h)
-  says_ordered (check.Crowded r) u (d, h) = decided_ordered (met r 4) (check.Crowded r) u d (refl, h)
-  says_ordered (check.OutOfRounds b) u (e, d, h) = decided_ordered used (check.OutOfRounds b) u d (ap check.OutOfRounds e, h)
-  says_ordered check.NoPage u (lent, sound, none, h) = sound_ordered check.NoPage u lent sound (inl (none, (refl, h)))
-  says_ordered (check.BadFile p) u (lent, e, h) = lent_ordered (check.BadFile p) u lent (inl ((p, e), (p, e, (refl, h))))
-  says_ordered check.BadBudget u (room, none, h) = inr (λ l. omega (arith, room, l), inl (none, (refl, h)))
-  says_ordered check.ShortTable u (l, h) = inl (l, (refl, h))
+  says_ordered (Ok p) u (d, (rows, x, e, h)) = decided_ordered (passed p.rounds) (Ok p) u d (rows, x, (passes p (length rows) e, h))
+  says_ordered (Err (check.Mismatch r)) u (d, h) = decided_ordered (met r 1) (Err (check.Mismatch r)) u d (refl, h)
+  says_ordered (Err (check.Invalid r)) u (d, h) = decided_ordered (met r 2) (Err (check.Invalid r)) u d (refl, h)
+  says_ordered (Err (check.TooDeep r)) u (d, h) = decided_ordered (met r 3) (Err (check.TooDeep r)) u d (refl, h)
+  says_ordered (Err (check.Crowded r)) u (d, h) = decided_ordered (met r 4) (Err (check.Crowded r)) u d (refl, h)
+  says_ordered (Err (check.OutOfRounds b)) u (e, d, h) = decided_ordered used (Err (check.OutOfRounds b)) u d (ap (λ (k : ℕ). Err (check.OutOfRounds k)) e, h)
+  says_ordered (Err check.NoPage) u (lent, sound, none, h) = sound_ordered (Err check.NoPage) u lent sound (inl (none, (refl, h)))
+  says_ordered (Err (check.BadFile p)) u (lent, e, h) = lent_ordered (Err (check.BadFile p)) u lent (inl ((p, e), (p, e, (refl, h))))
+  says_ordered (Err check.BadBudget) u (room, none, h) = inr (λ l. omega (arith, room, l), inl (none, (refl, h)))
+  says_ordered (Err check.ShortTable) u (l, h) = inl (l, (refl, h))
 
 -- the check's reply and its worktable are determined
 pub check_unique : (f t : List ℕ) (budget : ℕ) (r s : CheckReply) (t' t'' : List ℕ) → CheckSays f t budget r t' → CheckSays f t budget s t''

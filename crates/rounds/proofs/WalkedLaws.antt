@@ -8,6 +8,7 @@ use mathlib.Core.List.{List}
 use Prim.Native.Nat.{ℕ, suc, ◌≤◌, ◌<◌}
 use native.Mathlib.Decide.{dec_lt}
 use native.Mathlib.Omega.{arith}
+use Rattle.std.specs.Prelude.{Option, Some, None}
 use Rattle.words.specs.Reader.{Outcome, reduced, differ}
 use Rattle.words.proofs.MismatchLaws.{reduced_not_differ}
 use Rattle.pieces.specs.declared.Piece.{Piece}
@@ -23,8 +24,6 @@ use Rattle.worktable.specs.Packed.{most_images, PairRow}
 use Rattle.pairs.specs.Books.{Book, book_of, table_row, Tabled}
 use Rattle.pairs.specs.declared.Tally.{Tally}
 use Rattle.walk.specs.Walks.{ValidForm, Grown, Happened, Noted, Walked}
-use Rattle.walk.specs.declared.Walk.{Walk}
-use Rattle.walk.specs.declared.Walk.TheVariants.{Stopped, Went}
 use Rattle.walk.proofs.ProgressLaws.{tabled_later}
 use Rattle.rounds.specs.Checks.{ImageOf, EventOf, NewOf}
 use Rattle.rounds.proofs.ListedLaws.{row_one_pair, pair_one_row, Listed, listed}
@@ -32,7 +31,7 @@ use Rattle.rounds.proofs.ResultLaws.{MismatchOf, InvalidOf, DeepOf, CrowdedOf, O
 use Rattle.rounds.proofs.ResultLaws.{over_image, over_mismatch, over_deep, over_invalid}
 
 -- the walk over the file's rules
-abbrev pub WalkedOver : List ℕ → List ℕ → Book → Walk → List ℕ → Type 0
+abbrev pub WalkedOver : List ℕ → List ℕ → Book → Option Tally → List ℕ → Type 0
 WalkedOver f lore = Walked lore (template_rules f)
 
 module _ (f lore : List ℕ) (sound : IsSound f) (taught : LoreOf f lore) (t t' : List ℕ) (n r : ℕ) (rows : Holding f (book_of t n) r)
@@ -40,10 +39,10 @@ module _ (f lore : List ℕ) (sound : IsSound f) (taught : LoreOf f lore) (t t' 
   abbrev Made : ℕ → Outcome Piece → Type 0
   Made = Over f lore (book_of t n)
 
-  pub stopped_mismatch : WalkedOver f lore (book_of t n) Stopped t' → MismatchOf f (suc r)
+  pub stopped_mismatch : WalkedOver f lore (book_of t n) None t' → MismatchOf f (suc r)
   stopped_mismatch (same_length, same_rest, found) = (over_mismatch f lore sound taught (book_of t n) r rows quiet).1 found
 
-  module _ (tally : Tally) (walked : WalkedOver f lore (book_of t n) (Went tally) t') where
+  module _ (tally : Tally) (walked : WalkedOver f lore (book_of t n) (Some tally) t') where
     abbrev after : Book
     after = book_of t' tally.rows
 

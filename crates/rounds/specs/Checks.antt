@@ -2,7 +2,7 @@
 -- Rules, sections 8 to 10 and 12: refusals come in the order 9, 8, 7, 6 and leave the worktable as it was; then the rounds decide. An
 -- answer from 1 to 5 leaves 5,376 zeros, a pass the rows of the images and zeros behind them. What a longer worktable has past its first
 -- 5,376 entries stays, whatever the answer.
-use Rattle.std.specs.Prelude.{◌≡◌, ℕ, suc, ◌*◌, ◌-◌, ◌≤◌, ◌<◌, length, drop, replicate}
+use Rattle.std.specs.Prelude.{◌≡◌, Ok, Err, ℕ, suc, ◌*◌, ◌-◌, ◌≤◌, ◌<◌, length, drop, replicate}
 use mathlib.Core.List.{List, ◌++◌, Memᴰ}
 use Rattle.hedge.specs.Schema.{Valid}
 use Rattle.template.specs.Layout.{template_rules}
@@ -18,8 +18,8 @@ use Rattle.trees.specs.Verdict.{Decision, met, passed, used, Decides}
 use Rattle.rows.specs.Tables.{flat, Ascending}
 use Rattle.worktable.specs.Packed.{row_width, most_images, table_long}
 pub use Rattle.worktable.specs.Packed.{PairRow}
-use Rattle.rounds.specs.declared.CheckReply.{CheckReply}
-use Rattle.rounds.specs.declared.CheckReply.TheVariants as check
+use Rattle.rounds.specs.declared.CheckRefusal.TheVariants as check
+use Rattle.rounds.specs.Replies.{CheckReply}
 
 module _ (f : List ℕ) where
   -- the file's grammar, its images, events and new images, at most 16 tags and 256 images
@@ -66,13 +66,14 @@ module _ (f t : List ℕ) (budget : ℕ) where
   Decided d = Lent × IsSound f × HasPage f × Decides (EventOf f) (NewOf f) budget d
 
   abbrev pub CheckSays : CheckReply → List ℕ → Type 0
-  CheckSays (check.Passed r n) t' = Decided (passed r) × ((rows : List (List ℕ)) × Rows f r rows × (n ≡ length rows) × (t' ≡ after_pass rows t))
-  CheckSays (check.Mismatch r) t' = Decided (met r 1) × (t' ≡ zeroed t)
-  CheckSays (check.Invalid r) t' = Decided (met r 2) × (t' ≡ zeroed t)
-  CheckSays (check.TooDeep r) t' = Decided (met r 3) × (t' ≡ zeroed t)
-  CheckSays (check.Crowded r) t' = Decided (met r 4) × (t' ≡ zeroed t)
-  CheckSays (check.OutOfRounds b) t' = (b ≡ budget) × Decided used × (t' ≡ zeroed t)
-  CheckSays check.NoPage t' = Lent × IsSound f × (HasPage f → ⊥) × (t' ≡ t)
-  CheckSays (check.BadFile p) t' = Lent × (reading f ≡ faulty p) × (t' ≡ t)
-  CheckSays check.BadBudget t' = (table_long ≤ length t) × ((1 ≤ budget) × (budget ≤ most_rounds) → ⊥) × (t' ≡ t)
-  CheckSays check.ShortTable t' = (length t < table_long) × (t' ≡ t)
+  CheckSays (Ok p) t' =
+      Decided (passed p.rounds) × ((rows : List (List ℕ)) × Rows f p.rounds rows × (p.images ≡ length rows) × (t' ≡ after_pass rows t))
+  CheckSays (Err (check.Mismatch r)) t' = Decided (met r 1) × (t' ≡ zeroed t)
+  CheckSays (Err (check.Invalid r)) t' = Decided (met r 2) × (t' ≡ zeroed t)
+  CheckSays (Err (check.TooDeep r)) t' = Decided (met r 3) × (t' ≡ zeroed t)
+  CheckSays (Err (check.Crowded r)) t' = Decided (met r 4) × (t' ≡ zeroed t)
+  CheckSays (Err (check.OutOfRounds b)) t' = (b ≡ budget) × Decided used × (t' ≡ zeroed t)
+  CheckSays (Err check.NoPage) t' = Lent × IsSound f × (HasPage f → ⊥) × (t' ≡ t)
+  CheckSays (Err (check.BadFile p)) t' = Lent × (reading f ≡ faulty p) × (t' ≡ t)
+  CheckSays (Err check.BadBudget) t' = (table_long ≤ length t) × ((1 ≤ budget) × (budget ≤ most_rounds) → ⊥) × (t' ≡ t)
+  CheckSays (Err check.ShortTable) t' = (length t < table_long) × (t' ≡ t)

@@ -1,3 +1,4 @@
+pub mod Replies
 pub mod Checks
 pub mod Answers
 pub mod Walking

@@ -8,17 +8,23 @@ ghost use Rattle.schema.specs.Schemas.{LoreOf};
 ghost use Rattle.rows.specs.Tables.{cleared};
 ghost use Rattle.worktable.specs.Packed.{table_long};
 ghost use Rattle.shares.specs.Shares.{Shares};
-ghost use Rattle.rounds.specs.Walking.{Met, event_reply};
+ghost use Rattle.rounds.specs.Walking.{Met, event_refusal};
 ghost use Rattle.rounds.specs.Checks.{HasPage, Lent, CheckSays};
 ghost use Rattle.rounds.specs.Answers.{answer, number, images};
 
 // The most rounds that a budget allows.
 pub const ROUNDS: usize = worktable::IMAGES + 1;
 
-// What the check answers, with the round and, where it passed, the number of images.
-#[derive(Clone, Copy)]
-pub enum CheckReply {
-    Passed(usize, usize),
+// A set that passed: in so many rounds, with so many images.
+#[derive(Clone, Copy, Debug, PartialEq, Eq)]
+pub struct Passed {
+    pub rounds: usize,
+    pub images: usize,
+}
+
+// Why a set did not pass, with the round, the budget or the place in the file.
+#[derive(Clone, Copy, Debug, PartialEq, Eq)]
+pub enum CheckRefusal {
     Mismatch(usize),
     Invalid(usize),
     TooDeep(usize),
@@ -30,46 +36,42 @@ pub enum CheckReply {
     ShortTable,
 }
 
-// What a round met, the lowest number first; or none of these, with so many rows.
-#[derive(Clone, Copy)]
+// What a round met, the lowest number first.
+#[derive(Clone, Copy, Debug, PartialEq, Eq)]
 pub enum Event {
     Mismatch,
     Invalid,
     TooDeep,
     Crowded,
-    Quiet(usize),
 }
 
-// The event that a walk met.
-fn event_of(w: walk::Walk) -> Event
-    ensures { Met w result }
+// The rows after a walk, or the event that it met.
+fn event_of(walked: Option<pairs::Tally>) -> Result<usize, Event>
+    ensures { Met walked result }
 {
-    let walk::Walk::Went(tally) = w else {
-        return Event::Mismatch;
-    };
+    let tally = walked.ok_or(Event::Mismatch)?;
     let notes = tally.notes;
     if notes.invalid {
-        return Event::Invalid;
+        return Err(Event::Invalid);
     }
     if notes.deep {
-        return Event::TooDeep;
+        return Err(Event::TooDeep);
     }
     if notes.crowded {
-        return Event::Crowded;
+        return Err(Event::Crowded);
     }
-    Event::Quiet(tally.rows)
+    Ok(tally.rows)
 }
 
-// The reply to an event of round r.
-fn reply_of(e: Event, r: usize) -> CheckReply
-    ensures { result ≡ event_reply e r }
+// The refusal for an event of round r.
+fn event_refusal(e: Event, r: usize) -> CheckRefusal
+    ensures { result ≡ event_refusal e r }
 {
     match e {
-        Event::Mismatch => CheckReply::Mismatch(r),
-        Event::Invalid => CheckReply::Invalid(r),
-        Event::TooDeep => CheckReply::TooDeep(r),
-        Event::Crowded => CheckReply::Crowded(r),
-        Event::Quiet(_) => CheckReply::OutOfRounds(r),
+        Event::Mismatch => CheckRefusal::Mismatch(r),
+        Event::Invalid => CheckRefusal::Invalid(r),
+        Event::TooDeep => CheckRefusal::TooDeep(r),
+        Event::Crowded => CheckRefusal::Crowded(r),
     }
 }
 
@@ -89,7 +91,7 @@ fn rounds(
     shares: &[u64; template::RULES],
     table: &mut [u64],
     budget: usize,
-) -> CheckReply
+) -> Result<Passed, CheckRefusal>
     requires file_value { reading file.now ≡ Ok shape }
     requires lore_of { LoreOf file.now lore.now }
     requires shares { Shares (template_rules file.now) shares.now }
@@ -100,34 +102,42 @@ fn rounds(
     let rules = view::templates_of(file, shape);
     let mut prev = 0;
     let mut n = 0;
-    let mut r = 0;
-    while r < budget {
+    for r in 0..budget {
         let round = walk::Round {
-            prev: prev,
+            prev,
             rows: n,
             first: r == 0,
         };
-        let w = walk::walk_round(rules, lore, shares, table, round);
-        r += 1;
-        let e = event_of(w);
-        let Event::Quiet(m) = e else {
-            wipe(table);
-            return reply_of(e, r);
+        let walked = walk::walk_round(rules, lore, shares, table, round);
+        let m = match event_of(walked) {
+            Ok(m) => m,
+            Err(e) => {
+                wipe(table);
+                return Err(event_refusal(e, r + 1));
+            }
         };
         if m == n {
             rows::sort(table, worktable::ROW, n);
             rows::clear(table, n * worktable::ROW, worktable::TABLE);
-            return CheckReply::Passed(r, n);
+            return Ok(Passed {
+                rounds: r + 1,
+                images: n,
+            });
         }
         prev = n;
         n = m;
     }
     wipe(table);
-    CheckReply::OutOfRounds(budget)
+    Err(CheckRefusal::OutOfRounds(budget))
 }
 
 // Checks a sound file of these numbers. What does not change between rounds is found here, once.
-fn check_sound(file: &[u8], shape: template::Shape, table: &mut [u64], budget: usize) -> CheckReply
+fn check_sound(
+    file: &[u8],
+    shape: template::Shape,
+    table: &mut [u64],
+    budget: usize,
+) -> Result<Passed, CheckRefusal>
     requires file_value { reading file.now ≡ Ok shape }
     requires lent { Lent file.now table.old budget }
     ensures { CheckSays file.now table.old budget result table.new }
@@ -135,7 +145,7 @@ fn check_sound(file: &[u8], shape: template::Shape, table: &mut [u64], budget: u
     let rules = view::templates_of(file, shape);
     let productive = useful::productive(rules);
     if !useful::marked(productive, 0) {
-        return CheckReply::NoPage;
+        return Err(CheckRefusal::NoPage);
     }
     let useful = useful::reached(rules, productive);
     let mut shares = [0u64; template::RULES];
@@ -146,65 +156,62 @@ fn check_sound(file: &[u8], shape: template::Shape, table: &mut [u64], budget: u
 }
 
 // Checks a template set: the refusals 9, 8, 7 and 6 in this order, and only then the rounds (Rules, section 9).
-pub fn check(file: &[u8], table: &mut [u64], budget: usize) -> CheckReply
+pub fn check(file: &[u8], table: &mut [u64], budget: usize) -> Result<Passed, CheckRefusal>
     ensures { CheckSays file.now table.old budget result table.new }
 {
     if table.len() < worktable::TABLE {
-        return CheckReply::ShortTable;
+        return Err(CheckRefusal::ShortTable);
     }
-    if budget < 1 {
-        return CheckReply::BadBudget;
-    }
-    if ROUNDS < budget {
-        return CheckReply::BadBudget;
+    if !(1..=ROUNDS).contains(&budget) {
+        return Err(CheckRefusal::BadBudget);
     }
     let r = template::read(file);
     let template::Reading::Sound(shape) = r else {
-        return CheckReply::BadFile(template::place(r));
+        return Err(CheckRefusal::BadFile(template::place(r)));
     };
     check_sound(file, shape, table, budget)
 }
 
 // The reply in numbers (Rules, section 9).
-pub fn answer(r: CheckReply) -> u32
+pub fn answer(r: Result<Passed, CheckRefusal>) -> u32
     ensures { result ≡ answer r }
 {
     match r {
-        CheckReply::Passed(_, _) => 0,
-        CheckReply::Mismatch(_) => 1,
-        CheckReply::Invalid(_) => 2,
-        CheckReply::TooDeep(_) => 3,
-        CheckReply::Crowded(_) => 4,
-        CheckReply::OutOfRounds(_) => 5,
-        CheckReply::NoPage => 6,
-        CheckReply::BadFile(_) => 7,
-        CheckReply::BadBudget => 8,
-        CheckReply::ShortTable => 9,
+        Ok(_) => 0,
+        Err(CheckRefusal::Mismatch(_)) => 1,
+        Err(CheckRefusal::Invalid(_)) => 2,
+        Err(CheckRefusal::TooDeep(_)) => 3,
+        Err(CheckRefusal::Crowded(_)) => 4,
+        Err(CheckRefusal::OutOfRounds(_)) => 5,
+        Err(CheckRefusal::NoPage) => 6,
+        Err(CheckRefusal::BadFile(_)) => 7,
+        Err(CheckRefusal::BadBudget) => 8,
+        Err(CheckRefusal::ShortTable) => 9,
     }
 }
 
-pub fn number(r: CheckReply) -> u64
+pub fn number(r: Result<Passed, CheckRefusal>) -> u64
     ensures { result ≡ number r }
 {
     match r {
-        CheckReply::Passed(n, _) => n as u64,
-        CheckReply::Mismatch(n) => n as u64,
-        CheckReply::Invalid(n) => n as u64,
-        CheckReply::TooDeep(n) => n as u64,
-        CheckReply::Crowded(n) => n as u64,
-        CheckReply::OutOfRounds(n) => n as u64,
-        CheckReply::NoPage => 0,
-        CheckReply::BadFile(n) => n as u64,
-        CheckReply::BadBudget => 0,
-        CheckReply::ShortTable => 0,
+        Ok(passed) => passed.rounds as u64,
+        Err(CheckRefusal::Mismatch(n)) => n as u64,
+        Err(CheckRefusal::Invalid(n)) => n as u64,
+        Err(CheckRefusal::TooDeep(n)) => n as u64,
+        Err(CheckRefusal::Crowded(n)) => n as u64,
+        Err(CheckRefusal::OutOfRounds(n)) => n as u64,
+        Err(CheckRefusal::NoPage) => 0,
+        Err(CheckRefusal::BadFile(n)) => n as u64,
+        Err(CheckRefusal::BadBudget) => 0,
+        Err(CheckRefusal::ShortTable) => 0,
     }
 }
 
-pub fn images(r: CheckReply) -> u64
+pub fn images(r: Result<Passed, CheckRefusal>) -> u64
     ensures { result ≡ images r }
 {
-    let CheckReply::Passed(_, n) = r else {
-        return 0;
-    };
-    n as u64
+    match r {
+        Ok(passed) => passed.images as u64,
+        Err(_) => 0,
+    }
 }

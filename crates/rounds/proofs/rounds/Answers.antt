@@ -4,7 +4,7 @@
 use mathlib.Core.Path.{◌≡◌}
 use mathlib.Core.List.{List}
 use Prim.Native.Nat.{ℕ, ◌<◌}
-use native.Mathlib.Omega.{arith}
+use Rattle.std.specs.Prelude.{Option, Result}
 use Rattle.template.specs.Order.{reading}
 use Rattle.std.specs.Prelude.{Ok}
 use Rattle.template.specs.declared.Shape.{Shape}
@@ -13,8 +13,8 @@ use Rattle.schema.specs.Schemas.{LoreOf}
 use Rattle.schema.proofs.SchemaLaws.{file_lore}
 use Rattle.view.specs.Views.{templates_by}
 use Rattle.pairs.specs.Books.{book_of}
+use Rattle.pairs.specs.declared.Tally.{Tally}
 use Rattle.walk.specs.Walks.{ProperRows, RoundBegins, Walked}
-use Rattle.walk.specs.declared.Walk.{Walk}
 use Rattle.shares.specs.Shares.{Shares}
 use Rattle.rounds.specs.Checks.{HasPage, Lent}
 use Rattle.rounds.specs.Walking.{Met}
@@ -25,7 +25,7 @@ use Rattle.rounds.proofs.EndLaws.{Turn, ends_used, ends_event, ends_passed, goes
 use Rattle.rounds.proofs.rounds.Goals as goal
 
 -- the state at the loop's head, the walk from it, and the event that it met
-turn : (f lore t₀ t t' : List ℕ) (budget r prev n : ℕ) (w : Walk) (e : Event) {shape : Shape} {part : List ℕ}
+turn : (f lore t₀ t t' : List ℕ) (budget r prev n : ℕ) (w : Option Tally) (e : Result ℕ Event) {shape : Shape} {part : List ℕ}
     → reading f ≡ Ok shape → LoreOf f lore → HasPage f → Lent f t₀ budget → AfterRound f lore t₀ t r prev n → r < budget
     → part ≡ templates_by f shape → Walked lore part (book_of t n) w t' → Met w e → Turn f lore t₀ t t' budget r prev n w e
 turn f lore t₀ t t' budget r prev n w e {shape} {part} sound taught page lent state within is walked told =
@@ -41,16 +41,16 @@ turn f lore t₀ t t' budget r prev n w e {shape} {part} sound taught page lent 
     }
 
 pub loop-r-init : goal.loop-r-init
-loop-r-init c = (omega arith, start_state c.args.file.now c.args.lore.now c.args.table.now c.requires.lent.0)
+loop-r-init c = start_state c.args.file.now c.args.lore.now c.args.table.now c.requires.lent.0
 
-pub walk_round-w-requires : goal.walk_round-w-requires
-walk_round-w-requires c =
+pub walk_round-walked-requires : goal.walk_round-walked-requires
+walk_round-walked-requires c =
     let f = c.args.file.now in
     let lore = c.args.lore.now in
     let sound = c.requires.file_value in
     let whole = shape_sound f c.args.shape sound in
     let part = c.templates_of-rules.ensures in
-    let state = c.loop-r.invariant.1 in
+    let state = c.loop-r.invariant in
     let round = next_round c.loop-r.r c.loop-r.prev c.loop-r.n in
     record {
       lore = file_lore f lore whole c.requires.lore_of;
@@ -63,28 +63,28 @@ walk_round-w-requires c =
           (state_begins f lore whole c.requires.lore_of _ _ c.loop-r.r _ _ state);
     }
 
-pub returns-in_default : goal.returns-in_default
-returns-in_default c =
+pub returns-in-Err : goal.returns-in-Err
+returns-in-Err c =
     ends_event
-    (turn _ _ _ _ _ _ _ _ _ _ _ c.requires.file_value c.requires.lore_of c.requires.has_page c.requires.lent c.loop-r.invariant.1
-    c.loop-r-test.true c.templates_of-rules.ensures c.walk_round-w.ensures c.event_of-e.ensures)
-    c.in_default.not-Quiet c.reply_of.ensures c.wipe.ensures
+    (turn _ _ _ _ _ _ _ _ _ _ _ c.requires.file_value c.requires.lore_of c.requires.has_page c.requires.lent c.loop-r.invariant
+    c.loop-r-test.true c.templates_of-rules.ensures c.walk_round-walked.ensures c.in-Err.ensures)
+    c.event_refusal.ensures c.wipe.ensures
 
 pub returns-then-m-n : goal.returns-then-m-n
 returns-then-m-n c =
     ends_passed
-    (turn _ _ _ _ _ _ _ _ _ _ _ c.requires.file_value c.requires.lore_of c.requires.has_page c.requires.lent c.loop-r.invariant.1
-    c.loop-r-test.true c.templates_of-rules.ensures c.walk_round-w.ensures c.event_of-e.ensures)
-    c.in-Quiet.is c.if-m-n.true c.sort.ensures c.clear.ensures
+    (turn _ _ _ _ _ _ _ _ _ _ _ c.requires.file_value c.requires.lore_of c.requires.has_page c.requires.lent c.loop-r.invariant
+    c.loop-r-test.true c.templates_of-rules.ensures c.walk_round-walked.ensures c.in-Ok.ensures)
+    c.if-m-n.true c.sort.ensures c.clear.ensures
 
 pub loop-r-preserved : goal.loop-r-preserved
 loop-r-preserved c =
     goes_on
-    (turn _ _ _ _ _ _ _ _ _ _ _ c.requires.file_value c.requires.lore_of c.requires.has_page c.requires.lent c.loop-r.invariant.1
-    c.loop-r-test.true c.templates_of-rules.ensures c.walk_round-w.ensures c.event_of-e.ensures)
-    c.in-Quiet.is c.if-m-n.false
+    (turn _ _ _ _ _ _ _ _ _ _ _ c.requires.file_value c.requires.lore_of c.requires.has_page c.requires.lent c.loop-r.invariant
+    c.loop-r-test.true c.templates_of-rules.ensures c.walk_round-walked.ensures c.in-Ok.ensures)
+    c.if-m-n.false
 
 pub returns : goal.returns
 returns c =
-    ends_used c.requires.lent (shape_sound c.args.file.now c.args.shape c.requires.file_value) c.requires.has_page
-    c.loop-r.invariant.1 c.loop-r-test.false c.wipe-2.ensures
+    ends_used c.requires.lent (shape_sound c.args.file.now c.args.shape c.requires.file_value) c.requires.has_page c.loop-r.invariant
+    c.loop-r-test.false c.wipe-2.ensures
