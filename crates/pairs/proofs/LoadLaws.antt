@@ -1,17 +1,18 @@
--- Slots, choices and loading (specs/Slots.antt, specs/Turns.antt), in the words in which the functions that deal with them have it, for
--- `search loads`. A byte's slot goes by three tests; an empty form, a tag's own form and the form of a row stand in the arrays, and a row
+-- Choices and loading (specs/Turns.antt), in the words in which the functions that deal with them have it, for `search loads`. An empty form, a tag's own form and the form of a row stand in the arrays, and a row
 -- of another nonterminal is no choice. Assumes nothing.
 use mathlib.Core.Path.{◌≡◌, refl, sym, ap, subst, ◌∙◌}
 use mathlib.Core.Bool.{Bool, true, false, false≢true}
 use mathlib.Core.List.{List}
-use Prim.Native.Nat.{ℕ, ◌+◌, ◌-◌, ◌*◌, ◌≤◌, ◌<◌}
+use Prim.Native.Nat.{ℕ, ◌+◌, ◌-◌, ◌*◌, ◌≤◌}
 use native.Mathlib.Omega.{arith}
 use lib.Dec.{eqb}
 use lib.ListN.{length, set, take, drop}
 use borrow.Author.Rules.{rules}
 use Rattle.std.specs.Prelude.{Option, Some, None}
-use borrow.Author.Tests.{lt-ltb, le-ltb, eqb-true, eq-eqb}
+use borrow.Author.Tests.{eqb-true, eq-eqb}
 use Rattle.words.specs.Reduced.{Stack}
+use Rattle.words.specs.declared.Tag as class
+use Rattle.words.specs.declared.Tag.TheVariants.{Start, End}
 use Rattle.pieces.specs.declared.Piece.{Piece}
 use Rattle.pieces.specs.Pieces.{piece_at, put_piece, Counted}
 use Rattle.pieces.proofs.PieceLaws.{piece_same}
@@ -25,45 +26,13 @@ use Rattle.rows.proofs.TableLaws.{row_part}
 use Rattle.worktable.specs.Packed.{row_width, nonterminal_in, summary_in, RowOf}
 use Rattle.worktable.proofs.RowLaws.{row_nonterminal, row_holds, row_form, row_last}
 use Rattle.pairs.specs.Books.{table_row}
-use Rattle.pairs.specs.Slots.{slot_of}
 use Rattle.pairs.specs.Turns.{slot_fits, SomePairRow, Choosable, TagForm, FormOf, Loads}
 use Rattle.pairs.specs.declared.Slot.{Slot}
 use Rattle.pairs.specs.declared.Slot.TheVariants.{Absent, Single, Rows}
 
--- ---- the slot of a byte
-
-module _ (used : Bool) (b : ℕ) where
-  pub slot_start : used ≡ true → b < 32 → Single false b ≡ slot_of used b
-  unfolding slot_of
-  slot_start u l = rw (u, lt-ltb b 32 l)
-
-  pub slot_end : used ≡ true → 32 ≤ b → b < 64 → Single true (b - 32) ≡ slot_of used b
-  unfolding slot_of
-  slot_end u h l = rw (u, le-ltb b 32 h, lt-ltb b 64 l)
-
-  pub slot_rows : used ≡ true → 64 ≤ b → Rows (b - 64) ≡ slot_of used b
-  unfolding slot_of
-  slot_rows u h = rw (u, le-ltb b 32 (omega arith), le-ltb b 64 h)
-
-  pub slot_absent : used ≡ false → Absent ≡ slot_of used b
-  unfolding slot_of
-  slot_absent u = rw u
-
 -- ---- a choice that fits
 
 module _ (s : Slot) (k : ℕ) (t : List ℕ) where
-  pub fits_absent : s ≡ Absent → true ≡ slot_fits s k t
-  unfolding slot_fits
-  fits_absent e = rw e
-
-  pub fits_single : (closes : Bool) (a : ℕ) → s ≡ Single closes a → true ≡ slot_fits s k t
-  unfolding slot_fits
-  fits_single closes a e = rw e
-
-  pub fits_rows : (r : Bool) (x : ℕ) → s ≡ Rows x → r ≡ eqb (nonterminal_in (table_row t k)) x → r ≡ slot_fits s k t
-  unfolding slot_fits
-  fits_rows r x e q = rw e q
-
   pub row_within : (x : ℕ) → Choosable t s k → s ≡ Rows x → k * row_width + row_width ≤ length t
   row_within x c e = (rw e at c).0
 
@@ -79,7 +48,7 @@ pub form_fits : (empty : Piece) (t : List ℕ) (s : Slot) (k : ℕ) (form : Stac
     → slot_fits s k t ≡ true
 unfolding slot_fits
 form_fits empty t Absent k form last f = refl
-form_fits empty t (Single closes a) k form last f = refl
+form_fits empty t (Single a) k form last f = refl
 form_fits empty t (Rows x) k form last f = row_of_fits t k x form last f
 
 -- ---- a row, as a part of the table
@@ -105,21 +74,21 @@ module _ (names values : List ℕ) (zeros : Holds (summary_of no_tags names valu
       → Loads (FormOf empty t s k) (Some c) names first
   loads_absent s t k c e d = rw (e, d) (holds_first, (stack_none 0 names first, first_piece))
 
-  module _ (a : ℕ) (closes : Bool) (c : Counts) (both : List ℕ) (both_is : both ≡ put_piece first 1 empty) where
+  module _ (a : ℕ) (tag : class.Tag) (c : Counts) (both : List ℕ) (both_is : both ≡ put_piece first 1 empty) where
     second_piece : piece_at both 1 ≡ empty
     second_piece = rw both_is (piece_same first 1 empty holds_first.values_long (omega arith))
 
     holds_tag : 1 ≡ c.ends + c.starts → Holds (summary_of c (set names 0 a) both)
     holds_tag one = rw both_is (holds_put (summary_of no_tags names first) c 1 a empty one (omega arith) (omega arith) holds_first few)
 
-    pub loads_end : closes ≡ true → c ≡ record { ends = 1; starts = 0 } → Loads (TagForm empty closes a) (Some c) (set names 0 a) both
+    pub loads_end : tag ≡ End a → c ≡ record { ends = 1; starts = 0 } → Loads (TagForm empty tag) (Some c) (set names 0 a) both
     loads_end e d =
         let form = stack_put_end 0 0 1 a empty names first (omega arith) (omega arith) (omega (arith, zeros.names_long)) in (
           holds_tag (rw d (omega arith)),
           (rw (d, e, both_is, form, first_piece, stack_none 0 names first), rw d second_piece),
         )
 
-    pub loads_start : closes ≡ false → c ≡ record { ends = 0; starts = 1 } → Loads (TagForm empty closes a) (Some c) (set names 0 a) both
+    pub loads_start : tag ≡ Start a → c ≡ record { ends = 0; starts = 1 } → Loads (TagForm empty tag) (Some c) (set names 0 a) both
     loads_start e d =
         let form = stack_put_start 0 0 1 a empty names first (omega arith) (omega arith) (omega (arith, zeros.names_long)) in (
           holds_tag (rw d (omega arith)),
@@ -127,9 +96,9 @@ module _ (names values : List ℕ) (zeros : Holds (summary_of no_tags names valu
         )
 
 module _ (empty : Piece) (t : List ℕ) (s : Slot) (k : ℕ) (names values : List ℕ) (r : Option Counts) where
-  pub loads_single : (closes : Bool) (a : ℕ) → s ≡ Single closes a → Loads (TagForm empty closes a) r names values
+  pub loads_single : (tag : class.Tag) → s ≡ Single tag → Loads (TagForm empty tag) r names values
       → Loads (FormOf empty t s k) r names values
-  loads_single closes a e w = rw e w
+  loads_single tag e w = rw e w
 
   pub loads_rows : (x : ℕ) → s ≡ Rows x → Loads (RowOf (table_row t k) x) r names values → Loads (FormOf empty t s k) r names values
   loads_rows x e w = rw e w
@@ -154,13 +123,6 @@ module _ (t : List ℕ) (k x : ℕ) (fits : Bool) (told : fits ≡ eqb (nontermi
       false≢true (sym f ∙ told ∙ row_of_fits t k x form last r)
 
 pub ruleset loads = (
-  slot_start,
-  slot_end,
-  slot_rows,
-  slot_absent,
-  fits_absent,
-  fits_single,
-  fits_rows,
   row_within,
   row_packs,
   row_test,

@@ -1,44 +1,47 @@
--- What is noted of a form (specs/Turns.antt), in the words in which `invalid_form` and `note_form` have it, for `search notes`: only a form
+-- What is noted of a form (specs/Turns.antt), in the words in which `invalid_form` and `note_form` have it (`search notes`): only a form
 -- of the start can be an invalid page, and its ending says so; the row of a form in the arrays is not looked for where one found no room
 -- before, stands among the others, finds no room, or goes behind them. The row is as wide as the table's rows. Assumes nothing.
 use mathlib.Core.Path.{◌≡◌, sym, ap, subst, ◌∙◌}
-use mathlib.Core.Bool.{Bool, true, false, not, ◌||◌}
+use mathlib.Core.Bool.{Bool, true, false, ◌||◌}
 use mathlib.Core.List.{List, [], ◌∷◌, ◌++◌}
 use Prim.Native.Nat.{ℕ, ◌+◌, ◌*◌, ◌≤◌, ◌<◌}
 use native.Mathlib.Omega.{arith}
+use lib.Dec.{eqb}
 use lib.ListN.{length, get_or}
 use mir.Syntax.{w8}
 use mir.Val.{Fits}
 use borrow.Author.Rules.{rules}
 use borrow.Author.Tests.{eq-eqb, ne_eqb}
+use Rattle.std.specs.Prelude.{Result}
+use Rattle.std.specs.Result.{is_err}
 use Rattle.words.specs.Reduced.{Stack, tags}
 use Rattle.pieces.specs.declared.Piece.{Piece}
 use Rattle.pieces.specs.Pieces.{piece_at}
 use Rattle.form.specs.Held.{tag_count, summary_of, form_of, last_of, Holds}
 use Rattle.form.specs.Endings.{ending_of}
 use Rattle.form.specs.declared.Counts.{Counts}
-use Rattle.form.specs.declared.Ending.{Ending}
+use Rattle.form.specs.declared.Flaw.{Flaw}
 use Rattle.form.proofs.HeldLaws.{tags_held}
 use Rattle.trees.specs.Events.{Pair}
 use Rattle.rows.specs.Tables.{rows_of, table_of, among}
 use Rattle.worktable.specs.Packed.{row_width, most_images, table_long, packed, RowOf}
 use Rattle.worktable.proofs.PackedLaws.{packed_row}
 use Rattle.worktable.proofs.RowLaws.{row_length}
-use Rattle.pairs.specs.Turns.{is_page, invalid_form, PairNoted, was_crowded, stands, finds_no_room, goes_behind}
+use Rattle.pairs.specs.Turns.{invalid_form, PairNoted, was_crowded, stands, finds_no_room, goes_behind}
 use Rattle.pairs.specs.declared.Tally.{Tally}
 
 -- ---- an invalid page
 
 module _ (lore : List ℕ) (x : ℕ) (c : Counts) (values : List ℕ) where
-  pub start_invalid : (last : Piece) (e : Ending) (b : Bool) → x ≡ 0 → last ≡ piece_at values (tag_count c)
-      → ((form : Stack Piece) → tags form ≡ tag_count c → e ≡ ending_of lore form last) → b ≡ is_page e
+  pub start_invalid : (last : Piece) (e : Result Unit Flaw) (b : Bool) → x ≡ 0 → last ≡ piece_at values (tag_count c)
+      → ((form : Stack Piece) → tags form ≡ tag_count c → e ≡ ending_of lore form last) → b ≡ is_err e
       → (form : Stack Piece) → tags form ≡ tag_count c
-      → not b ≡ invalid_form lore (record { of = x; form = form; last = piece_at values (tag_count c) })
+      → b ≡ invalid_form lore (record { of = x; form = form; last = piece_at values (tag_count c) })
   unfolding invalid_form
   start_invalid last e b z last_is told is form count = rw (eq-eqb x 0 z, ← last_is, is, told form count)
 
   pub other_valid : (x ≡ 0 → ⊥) → (form : Stack Piece) → tags form ≡ tag_count c
-      → false ≡ invalid_form lore (record { of = x; form = form; last = piece_at values (tag_count c) })
+      → eqb x 0 ≡ invalid_form lore (record { of = x; form = form; last = piece_at values (tag_count c) })
   unfolding invalid_form
   other_valid n form count = rw (ne_eqb x 0 n)
 
@@ -107,4 +110,4 @@ module _ (lore names values : List ℕ) (x : ℕ) (c : Counts) (t : List ℕ) (f
         (goes_behind row t' packs (found_among false f) l
         (a ∙ ap (λ (w : ℕ). table_of (rows_of w found.rows t ++ (row ∷ [])) t) wide))
 
-pub ruleset notes = (start_invalid, other_valid, form_row, rows_room, row_room, note_crowded, note_stands, note_no_room, note_behind, rules)
+pub ruleset notes = (form_row, rows_room, row_room, note_crowded, note_stands, note_no_room, note_behind, rules)

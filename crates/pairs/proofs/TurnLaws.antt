@@ -8,7 +8,7 @@ use Prim.Native.Nat.{ℕ}
 use native.Mathlib.Omega.{arith}
 use lib.ListN.{length-replicate, replicate}
 use borrow.Author.Rules.{rules}
-use Rattle.std.specs.Prelude.{Option, Some, None}
+use Rattle.std.specs.Prelude.{Option, Some, None, Result, Ok, Err}
 use borrow.Author.Tests.{not-true}
 use Rattle.words.specs.Reader.{Outcome, reduced, join}
 use Rattle.words.proofs.LimitLaws.{Answers, limit_iff}
@@ -19,8 +19,8 @@ use Rattle.form.specs.Held.{summary_of, form_of, last_of, Holds}
 use Rattle.form.specs.Steps.{outcome, Stepped, after_form}
 use Rattle.form.specs.declared.Counts.{Counts}
 use Rattle.form.specs.declared.Summary.{Summary}
-use Rattle.form.specs.declared.Step.{Step}
-use Rattle.form.specs.declared.Step.TheVariants as steps
+use Rattle.form.specs.declared.Clash.{Clash}
+use Rattle.form.specs.declared.Clash.TheVariants as clash
 use Rattle.form.proofs.HeldLaws.{unused_none}
 use Rattle.form.proofs.FormLaws.{form_limit}
 use Rattle.pairs.specs.Turns.{slot_fits, FormOf, Loads, after_deep, FormsNoted, OutcomeNoted, mismatches, is_deep, is_form}
@@ -83,7 +83,7 @@ module _ (lore t : List ℕ) (pair : Selection) (marks : ℕ) (found : Tally) (e
     abbrev pub joined_forms : Outcome Piece
     joined_forms = join (pieces lore) (reduced (form_of first) (last_of first)) (form_of second) (last_of second)
 
-    answers : (step : Step) → Stepped step names' values' (after_form lore first second)
+    answers : (step : Result Counts Clash) → Stepped step names' values' (after_form lore first second)
         → Answers most_tags joined_forms (outcome step names' values')
     answers step told =
         (limit_iff (pieces lore) most_tags joined_forms (outcome step names' values')).0
@@ -93,24 +93,24 @@ module _ (lore t : List ℕ) (pair : Selection) (marks : ℕ) (found : Tally) (e
     turn_joined r t' w =
         joined (form_of first) (last_of first) (form_of second) (last_of second) r t' (rw empty-is at left.1) (rw empty-is at right.1) w
 
-    pub turn_form : (d : Counts) (r : Tally) (t' : List ℕ) → Stepped (steps.Kept d) names' values' (after_form lore first second)
+    pub turn_form : (d : Counts) (r : Tally) (t' : List ℕ) → Stepped (Ok d) names' values' (after_form lore first second)
         → FormsNoted lore marks (form_of (summary_of d names' values')) (last_of (summary_of d names' values')) t found 64 r t'
         → Turned lore t pair marks found (Some r) t'
     unfolding outcome
     turn_form d r t' told w =
-        let (q, l) = answers (steps.Kept d) told in
+        let (q, l) = answers (Ok d) told in
         turn_joined (Some r) t' (is_form (form_of (summary_of d names' values')) (last_of (summary_of d names' values')) r t' q l w)
 
-    pub turn_mismatch : (f g : ℕ) → Stepped (steps.Mismatch f g) names' values' (after_form lore first second)
+    pub turn_mismatch : (f g : ℕ) → Stepped (Err (clash.Mismatch f g)) names' values' (after_form lore first second)
         → Turned lore t pair marks found None t
     unfolding outcome
-    turn_mismatch f g told = turn_joined None t (mismatches f g (answers (steps.Mismatch f g) told))
+    turn_mismatch f g told = turn_joined None t (mismatches f g (answers (Err (clash.Mismatch f g)) told))
 
-    pub turn_deep : Stepped steps.TooDeep names' values' (after_form lore first second)
+    pub turn_deep : Stepped (Err clash.TooDeep) names' values' (after_form lore first second)
         → Turned lore t pair marks found (Some (record { rows = found.rows; notes = after_deep marks found.notes })) t
     unfolding outcome
     turn_deep told =
-        let (v, h, q, l) = answers steps.TooDeep told in
+        let (v, h, q, l) = answers (Err clash.TooDeep) told in
         turn_joined (Some (record { rows = found.rows; notes = after_deep marks found.notes })) t (is_deep v h q l)
 
 pub ruleset one_turn_laws = (empty_counted, zeros_hold, turn_no_fit, rules)

@@ -1,20 +1,21 @@
 -- One pair of choices of the walk (walk/specs/Walks.antt): what is loaded of a choice, what its form does to the rows and the notes, and
 -- from which choices on the walk joins. Cited by the contracts of the functions that the walk calls.
-use Rattle.std.specs.Prelude.{◌≡◌, Bool, true, false, not, ◌&&◌, ◌||◌, Option, Some, None, List, [], ◌∷◌, ◌++◌, ℕ, suc, ◌+◌, ◌*◌, ◌≤◌, ◌<◌, eqb, length}
+use Rattle.std.specs.Prelude.{◌≡◌, Bool, true, false, ◌&&◌, ◌||◌, Option, Some, None, List, [], ◌∷◌, ◌++◌, ℕ, suc, ◌+◌, ◌*◌, ◌≤◌, ◌<◌, eqb, length}
+use Rattle.std.specs.Result.{is_err}
 use Rattle.numbers.specs.Bits.{bit}
 use Rattle.words.specs.Reduced.{Stack, bottom, push, tags}
+use Rattle.words.specs.declared.Tag as class
 use Rattle.words.specs.Reader.{Outcome, reduced, differ, join}
 use Rattle.pieces.specs.declared.Piece.{Piece}
 use Rattle.pieces.specs.Pieces.{most_tags, pieces}
-use Rattle.form.specs.Held.{tag_of, summary_of, form_of, last_of, Holds}
+use Rattle.form.specs.Held.{summary_of, form_of, last_of, Holds}
 use Rattle.form.specs.Endings.{ending_of}
 use Rattle.form.specs.declared.Counts.{Counts}
-use Rattle.form.specs.declared.Ending.{Ending}
-use Rattle.form.specs.declared.Ending.TheVariants as ending
 use Rattle.trees.specs.Events.{Pair}
 use Rattle.rows.specs.Tables.{rows_of, table_of, among}
 use Rattle.worktable.specs.Packed.{row_width, most_images, nonterminal_in, RowOf, PairRow}
 use Rattle.pairs.specs.Books.{table_row}
+use Rattle.pairs.specs.Slots.{tag_in}
 use Rattle.pairs.specs.declared.Slot.{Slot}
 use Rattle.pairs.specs.declared.Slot.TheVariants.{Absent, Single, Rows}
 use Rattle.pairs.specs.declared.Selection.{Selection}
@@ -26,7 +27,7 @@ use Rattle.pairs.specs.declared.Tally.{Tally}
 -- no row of another nonterminal
 unfoldable pub slot_fits : Slot → ℕ → List ℕ → Bool
 slot_fits Absent k t = true
-slot_fits (Single closes a) k t = true
+slot_fits (Single a) k t = true
 slot_fits (Rows x) k t = eqb (nonterminal_in (table_row t k)) x
 
 -- the left choices of a rule: none where no nonterminal is marked for it
@@ -53,17 +54,17 @@ SomePairRow row = (p : Pair Piece) × PairRow row p
 
 abbrev pub Choosable : List ℕ → Slot → ℕ → Type 0
 Choosable t Absent k = Unit {0}
-Choosable t (Single closes a) k = Unit {0}
+Choosable t (Single a) k = Unit {0}
 Choosable t (Rows x) k = (k * row_width + row_width ≤ length t) × SomePairRow (table_row t k)
 
 -- a tag's own form
-abbrev pub TagForm : Piece → Bool → ℕ → Stack Piece → Piece → Type 0
-TagForm empty closes a form last = (form ≡ push bottom empty (tag_of closes a)) × (last ≡ empty)
+abbrev pub TagForm : Piece → class.Tag → Stack Piece → Piece → Type 0
+TagForm empty a form last = (form ≡ push bottom empty (tag_in a)) × (last ≡ empty)
 
 -- the form of choice k of a slot, where there is such a choice
 abbrev pub FormOf : Piece → List ℕ → Slot → ℕ → Stack Piece → Piece → Type 0
 FormOf empty t Absent k form last = (form ≡ bottom) × (last ≡ empty)
-FormOf empty t (Single closes a) k form last = TagForm empty closes a form last
+FormOf empty t (Single a) k form last = TagForm empty a form last
 FormOf empty t (Rows x) k form last = RowOf (table_row t k) x form last
 
 -- the arrays hold a form that is C, or no form is
@@ -74,15 +75,9 @@ Loads C None names values = (form : Stack Piece) (last : Piece) → C form last 
 
 -- ---- what a form does to the rows and the notes
 
--- a page's form
-abbrev pub is_page : Ending → Bool
-is_page ending.Page = true
-is_page ending.Unmatched = false
-is_page ending.NotDerived = false
-
 -- a form of the start that is no page's
 unfoldable pub invalid_form : List ℕ → Pair Piece → Bool
-invalid_form lore p = eqb p.of 0 && not (is_page (ending_of lore p.form p.last))
+invalid_form lore p = eqb p.of 0 && is_err (ending_of lore p.form p.last)
 
 -- the notes with a pair
 abbrev pub after_pair : List ℕ → Pair Piece → Notes → Bool → Notes

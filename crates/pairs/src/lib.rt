@@ -12,14 +12,14 @@ ghost use Rattle.form.specs.Held.{tag_count, summary_of, form_of, last_of, Holds
 ghost use Rattle.worktable.specs.Packed.{row_width, most_images, table_long, nonterminal_in, RowOf};
 ghost use Rattle.pairs.specs.Books.{table_row};
 ghost use Rattle.pairs.specs.Slots.{slot_of};
-ghost use Rattle.pairs.specs.Turns.{slot_fits, SomePairRow, Choosable, TagForm, FormOf, Loads, is_page, invalid_form, after_deep};
+ghost use Rattle.pairs.specs.Turns.{slot_fits, SomePairRow, Choosable, TagForm, FormOf, Loads, invalid_form, after_deep};
 ghost use Rattle.pairs.specs.Turns.{PairNoted, FormsNoted, Turned};
 
 // What stands at a place of a rule's right side: nothing, a tag, or the rows of a nonterminal.
 #[derive(Clone, Copy, Debug, PartialEq, Eq)]
 pub enum Slot {
     Absent,
-    Single(bool, u8),
+    Single(words::Tag),
     Rows(u8),
 }
 
@@ -56,8 +56,8 @@ pub fn slot_of(used: bool, byte: u8) -> Slot
         return Slot::Absent;
     }
     match byte {
-        0..=31 => Slot::Single(false, byte),
-        32..=63 => Slot::Single(true, byte - 32),
+        0..=31 => Slot::Single(words::Tag::Start(byte)),
+        32..=63 => Slot::Single(words::Tag::End(byte - 32)),
         _ => Slot::Rows(byte - 64),
     }
 }
@@ -73,13 +73,13 @@ fn row_fits(table: &[u64], k: usize, x: u8) -> bool
 }
 
 // Is choice k of the slot one of its own: no row of another nonterminal?
+#[tactic(auto, unfolding(crate::specs::Turns::slot_fits))]
 pub fn fits(s: Slot, k: usize, table: &[u64]) -> bool
     requires { Choosable table.now s k }
     ensures { result ≡ slot_fits s k table.now }
 {
     match s {
-        Slot::Absent => true,
-        Slot::Single(_, _) => true,
+        Slot::Absent | Slot::Single(_) => true,
         Slot::Rows(x) => row_fits(table, k, x),
     }
 }
@@ -87,22 +87,26 @@ pub fn fits(s: Slot, k: usize, table: &[u64]) -> bool
 // Puts a tag's own form into two arrays of zeros: so many ends and starts.
 fn load_tag(
     empty: pieces::Piece,
-    closes: bool,
-    a: u8,
+    tag: words::Tag,
     names: &mut [u8; pieces::TAGS],
     values: &mut [u64; pieces::PIECES],
 ) -> form::Counts
     requires counted { Counted empty }
     requires holds { Holds (summary_of (record { ends = 0; starts = 0 }) names.old values.old) }
-    ensures { Loads (TagForm empty closes a) (Some result) names.new values.new }
+    ensures { Loads (TagForm empty tag) (Some result) names.new values.new }
 {
-    names[0] = a;
     pieces::put_piece(values, 0, empty);
     pieces::put_piece(values, 1, empty);
-    if closes {
-        return form::counted(1, 0);
+    match tag {
+        words::Tag::Start(a) => {
+            names[0] = a;
+            form::counted(0, 1)
+        }
+        words::Tag::End(a) => {
+            names[0] = a;
+            form::counted(1, 0)
+        }
     }
-    form::counted(0, 1)
 }
 
 // Puts the form of row k into two arrays, where it is one of the nonterminal x; a row of another nonterminal is none.
@@ -144,19 +148,8 @@ fn load(
             pieces::put_piece(values, 0, empty);
             Some(form::counted(0, 0))
         }
-        Slot::Single(closes, a) => Some(load_tag(empty, closes, a, names, values)),
+        Slot::Single(tag) => Some(load_tag(empty, tag, names, values)),
         Slot::Rows(x) => load_row(table, k, x, names, values),
-    }
-}
-
-// Is the ending a page's?
-fn is_page(e: form::Ending) -> bool
-    ensures { result ≡ is_page e }
-{
-    match e {
-        form::Ending::Page => true,
-        form::Ending::Unmatched => false,
-        form::Ending::NotDerived => false,
     }
 }
 
@@ -171,12 +164,7 @@ fn invalid_form(
     ensures { (s : Stack Piece) → tags s ≡ tag_count c
         → result ≡ invalid_form lore.now (record { of = x; form = s; last = piece_at values.now (tag_count c) }) }
 {
-    if x == 0 {
-        let last = pieces::piece_at(values, c.ends + c.starts);
-        let e = form::ending_of(lore, c, last);
-        return !is_page(e);
-    }
-    false
+    x == 0 && form::ending_of(lore, c, pieces::piece_at(values, c.ends + c.starts)).is_err()
 }
 
 // The row of a form of x.
@@ -306,8 +294,8 @@ pub fn one_turn(
     };
     let t = form::then_form(lore, &mut names, &mut values, c, &tags, &parts, more);
     match t {
-        form::Step::Kept(d) => Some(note_forms(lore, marks, d, &names, &values, table, found)),
-        form::Step::Mismatch(_, _) => None,
-        form::Step::TooDeep => Some(noted_deep(marks, found)),
+        Ok(d) => Some(note_forms(lore, marks, d, &names, &values, table, found)),
+        Err(form::Clash::Mismatch(_, _)) => None,
+        Err(form::Clash::TooDeep) => Some(noted_deep(marks, found)),
     }
 }

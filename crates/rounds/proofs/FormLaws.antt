@@ -10,6 +10,7 @@ use lib.Dec.{eqb, ltb}
 use lib.ListN.{length, get_or}
 use lib.Seq.{get_or-append-add}
 use borrow.Author.Tests.{lt-ltb, le-ltb}
+use Rattle.std.specs.Prelude.{Result, Ok, Err}
 use Rattle.numbers.specs.Bits.{number}
 use Rattle.words.specs.Tags.{Tag, most_names}
 use Rattle.words.specs.Balance.{Balanced}
@@ -19,18 +20,16 @@ use Rattle.hedge.specs.Operations.{relation, unit}
 use Rattle.lore.specs.Lore.{lore_head, table_from, marked, meets, outer}
 use Rattle.pieces.specs.declared.Piece.{Piece}
 use Rattle.form.specs.Endings.{ending_of}
-use Rattle.form.specs.declared.Ending.{Ending}
-use Rattle.form.specs.declared.Ending.TheVariants.{Page, Unmatched, NotDerived}
+use Rattle.form.specs.declared.Flaw.{Flaw}
 use Rattle.template.specs.Layout.{states, schema_rules, ending_states}
 use Rattle.template.specs.Order.{IsSound}
 use Rattle.schema.specs.Schemas.{schema_of, binoid_of, LoreOf}
 use Rattle.schema.proofs.SchemaLaws.{ending_page}
 use Rattle.walk.specs.Walks.{ValidForm}
 
-page_decided : (e : Ending) → Dec (e ≡ Page)
-page_decided Page = yes refl
-page_decided Unmatched = no (λ e. let z : ◌≡◌ {A = ℕ} 0 1 = cc e in omega (arith, z))
-page_decided NotDerived = no (λ e. let z : ◌≡◌ {A = ℕ} 0 1 = cc e in omega (arith, z))
+page_decided : (e : Result Unit Flaw) → Dec (e ≡ Ok tt)
+page_decided (Ok u) = yes refl
+page_decided (Err f) = no (λ e. let z : ◌≡◌ {A = ℕ} 0 1 = cc e in omega (arith, z))
 
 pub form_decided : (lore : List ℕ) (s : Stack Piece) (c : Piece) → Dec (ValidForm lore s c)
 form_decided lore s c = page_decided (ending_of lore s c)

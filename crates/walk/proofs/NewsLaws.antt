@@ -71,7 +71,7 @@ module _ (t : List ℕ) where
       → renews slot (news t prev n) first ≡ false → Choice empty (book_of t n) slot k s c → k < new_from slot prev first
   unfolding renews
   unrenewed_old empty prev n first Absent k s c e (q, _, _) = rw e (omega arith)
-  unrenewed_old empty prev n first (Single closes a) k s c e (q, _, _) = rw e (omega arith)
+  unrenewed_old empty prev n first (Single a) k s c e (q, _, _) = rw e (omega arith)
   unrenewed_old empty prev n first (Rows x) k s c e (l, r) =
       elim (dec_lt k prev) [
         | yes h ↦ h

@@ -33,7 +33,7 @@ module _ {lore rules shares : List ℕ} (lent : LentParts lore rules shares) {ro
 
   choosable : (slot : Slot) (k : ℕ) → k < choices slot round.rows → Choosable p.table slot k
   choosable Absent k l = tt
-  choosable (Single closes a) k l = tt
+  choosable (Single a) k l = tt
   choosable (Rows x) k l =
       let grown = going.sofar.grown in
       let (q, r, g) = grown.proper_rows.proper k (omega (arith, grown.more)) in

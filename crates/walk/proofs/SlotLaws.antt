@@ -12,6 +12,7 @@ use lib.ListN.{take}
 use borrow.Author.Tests.{lt-ltb, eq-eqb}
 use Rattle.words.specs.Tags.{start, end}
 use Rattle.words.specs.Reduced.{Stack}
+use Rattle.words.specs.declared.Tag.TheVariants.{Start, End}
 use Rattle.numbers.specs.Fields.{field}
 use Rattle.pieces.specs.declared.Piece.{Piece}
 use Rattle.pieces.specs.Pieces.{pieces}
@@ -34,7 +35,7 @@ module _ (lore : List ℕ) (b : Book) (s : Stack Piece) (c : Piece) where
 
   symbol_choice : (a : ℕ) (low middle : Bool)
       → SymbolForm (pieces lore) (Tabled b) (cond low (tag (start a)) (cond middle (tag (end (a - 32))) (nonterminal (a - 64)))) s c
-      ↔ Chosen (pieces lore).unit b (cond low (Single false a) (cond middle (Single true (a - 32)) (Rows (a - 64)))) s c
+      ↔ Chosen (pieces lore).unit b (cond low (Single (Start a)) (cond middle (Single (End (a - 32))) (Rows (a - 64)))) s c
   symbol_choice a true middle = (λ (p, q). (0, omega arith, (refl, p, q)), λ (k, l, (e, p, q)). (p, q))
   symbol_choice a false true = (λ (p, q). (0, omega arith, (refl, p, q)), λ (k, l, (e, p, q)). (p, q))
   symbol_choice a false false = (λ (k, l, r). (k, l, (l, r)), λ (k, l, (l', r)). (k, l, r))
@@ -79,7 +80,7 @@ module _ (empty : Piece) (t : List ℕ) where
   pub choice_unique : (n : ℕ) (slot : Slot) (k : ℕ) (s u : Stack Piece) (c d : Piece) → Choice empty (book_of t n) slot k s c
       → Choice empty (book_of t n) slot k u d → (s ≡ u) × (c ≡ d)
   choice_unique n Absent k s u c d (e, p, q) (e', p', q') = (p ∙ sym p', q ∙ sym q')
-  choice_unique n (Single closes a) k s u c d (e, p, q) (e', p', q') = (p ∙ sym p', q ∙ sym q')
+  choice_unique n (Single a) k s u c d (e, p, q) (e', p', q') = (p ∙ sym p', q ∙ sym q')
   choice_unique n (Rows x) k s u c d (l, r) (l', r') =
       let (e, f, g) = row_pair (table_row t k) x x s u c d r r' in
       (f, g)
@@ -88,7 +89,7 @@ module _ (empty : Piece) (t : List ℕ) where
   pub choice_old : (prev n : ℕ) (first : Bool) (slot : Slot) (k : ℕ) (s : Stack Piece) (c : Piece) → k < new_from slot prev first
       → Choice empty (book_of t n) slot k s c → (k < choices slot prev) × Choice empty (book_of t prev) slot k s c
   choice_old prev n first Absent k s c l (e, p, q) = (omega arith, (e, p, q))
-  choice_old prev n first (Single closes a) k s c l (e, p, q) = (omega arith, (e, p, q))
+  choice_old prev n first (Single a) k s c l (e, p, q) = (omega arith, (e, p, q))
   choice_old prev n first (Rows x) k s c l (l', r) = (l, (l, r))
 
   -- a choice fits
@@ -96,14 +97,14 @@ module _ (empty : Piece) (t : List ℕ) where
       → slot_fits slot k t ≡ true
   unfolding slot_fits
   choice_fits n Absent k s c p = refl
-  choice_fits n (Single closes a) k s c p = refl
+  choice_fits n (Single a) k s c p = refl
   choice_fits n (Rows x) k s c (l, r) = eq-eqb (nonterminal_in (table_row t k)) x (row_nonterminal (table_row t k) x s c r)
 
   -- a choice below the number of choices is its form
   choice_form : (n : ℕ) (slot : Slot) (k : ℕ) (s : Stack Piece) (c : Piece) → k < choices slot n
       → FormOf empty t slot k s c ↔ Choice empty (book_of t n) slot k s c
   choice_form n Absent k s c l = (λ (p, q). (omega arith, p, q), λ (e, p, q). (p, q))
-  choice_form n (Single closes a) k s c l = (λ (p, q). (omega arith, p, q), λ (e, p, q). (p, q))
+  choice_form n (Single a) k s c l = (λ (p, q). (omega arith, p, q), λ (e, p, q). (p, q))
   choice_form n (Rows x) k s c l = (λ r. (l, r), λ (l', r). r)
 
 -- the rows below n are all that matters: choices of the table t, seen in a later one
@@ -111,7 +112,7 @@ module _ (empty : Piece) (t t' : List ℕ) (n : ℕ) (same : (k : ℕ) → k < n
   choice_same : (slot : Slot) (k : ℕ) (s : Stack Piece) (c : Piece) → Choice empty (book_of t n) slot k s c
       ↔ Choice empty (book_of t' n) slot k s c
   choice_same Absent k s c = (λ p. p, λ p. p)
-  choice_same (Single closes a) k s c = (λ p. p, λ p. p)
+  choice_same (Single a) k s c = (λ p. p, λ p. p)
   choice_same (Rows x) k s c = (λ (l, r). (l, rw (same k l) r), λ (l, r). (l, rw (same k l) at r))
 
   pub fits_later : (slot : Slot) (k : ℕ) (s : Stack Piece) (c : Piece) → Choice empty (book_of t n) slot k s c → slot_fits slot k t' ≡ true
@@ -127,5 +128,5 @@ module _ (empty : Piece) (t t' : List ℕ) (n : ℕ) (same : (k : ℕ) → k < n
 -- in the first round no choice is old
 pub none_old : (prev n : ℕ) (slot : Slot) (k : ℕ) → prev ≤ n → n ≡ 0 → k < new_from slot prev true → ⊥
 none_old prev n Absent k l e h = omega arith
-none_old prev n (Single closes a) k l e h = omega arith
+none_old prev n (Single a) k l e h = omega arith
 none_old prev n (Rows x) k l e h = omega arith

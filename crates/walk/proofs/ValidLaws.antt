@@ -6,17 +6,18 @@ use mathlib.Core.List.{List}
 use Prim.Native.Nat.{ℕ, ◌<◌}
 use native.Mathlib.Omega.{arith}
 use lib.Dec.{eqb}
-use borrow.Author.Tests.{eqb-true, eq-eqb, not-true, not-false}
+use borrow.Author.Tests.{eqb-true, eq-eqb}
+use Rattle.std.specs.Prelude.{Result, Ok, Err}
+use Rattle.std.specs.Result.{is_err}
 use Rattle.words.specs.Reduced.{Stack, tags}
 use Rattle.numbers.proofs.TestLaws.{and_out}
 use Rattle.pieces.specs.declared.Piece.{Piece}
 use Rattle.pieces.specs.Pieces.{most_tags}
 use Rattle.form.specs.Endings.{ending_of}
-use Rattle.form.specs.declared.Ending.{Ending}
-use Rattle.form.specs.declared.Ending.TheVariants.{Page, Unmatched, NotDerived}
+use Rattle.form.specs.declared.Flaw.{Flaw}
 use Rattle.form.proofs.EndingLaws.{ending_iff}
 use Rattle.trees.specs.Events.{Pair}
-use Rattle.pairs.specs.Turns.{is_page, invalid_form}
+use Rattle.pairs.specs.Turns.{invalid_form}
 use Rattle.walk.specs.Walks.{ValidForm}
 
 pub or_false_left : (a b : Bool) → (a || b) ≡ false → a ≡ false
@@ -27,10 +28,9 @@ pub or_false_right : (a b : Bool) → (a || b) ≡ false → b ≡ false
 or_false_right false b e = e
 or_false_right true b e = absurd (false≢true (sym e))
 
-page_is : (e : Ending) → is_page e ≡ true → e ≡ Page
-page_is Page h = refl
-page_is Unmatched h = absurd (false≢true h)
-page_is NotDerived h = absurd (false≢true h)
+page_is : (e : Result Unit Flaw) → is_err e ≡ false → e ≡ Ok tt
+page_is (Ok u) h = refl
+page_is (Err f) h = absurd (false≢true (sym h))
 
 module _ (lore : List ℕ) where
   module _ (p : Pair Piece) where
@@ -40,14 +40,13 @@ module _ (lore : List ℕ) where
     unfolding invalid_form
     invalid-form e =
         let (x, q) = and_out (eqb p.of 0) e in
-        (eqb-true p.of 0 x, λ v. false≢true (sym (not-true (is_page (ending_of lore p.form p.last)) q) ∙ ap is_page v))
+        (eqb-true p.of 0 x, λ v. false≢true (sym (ap is_err v) ∙ q))
 
     pub valid_start_form : invalid_form lore p ≡ false → p.of ≡ 0 → ValidForm lore p.form p.last
     unfolding invalid_form
     valid_start_form e z =
-        page_is (ending_of lore p.form p.last)
-        (not-false (is_page (ending_of lore p.form p.last)) (rw (eq-eqb p.of 0 z) at e))
+        page_is (ending_of lore p.form p.last) (rw (eq-eqb p.of 0 z) at e)
 
   pub deep_invalid : (s : Stack Piece) (c : Piece) → most_tags < tags s → ValidForm lore s c → ⊥
   unfolding tags
-  deep_invalid s c l v = omega (arith, ap tags ((ending_iff lore s c Page).0 v).0)
+  deep_invalid s c l v = omega (arith, ap tags ((ending_iff lore s c (Ok tt)).0 v).0)

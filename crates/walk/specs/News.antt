@@ -18,5 +18,5 @@ news t a e = marks_from t a (e - a)
 
 unfoldable pub renews : Slot → ℕ → Bool → Bool
 renews Absent fresh first = first
-renews (Single closes a) fresh first = first
+renews (Single a) fresh first = first
 renews (Rows x) fresh first = first || bit fresh (x % 64)

@@ -1,14 +1,13 @@
 -- One round's walk: the rules, and for each the pairs of images on its right side. Rules, section 8: only a mismatch ends it at once.
 -- Invalid pages, strings that are too deep and images past 256 are noted, and the walk goes on. The book's rows
 -- are the images before the round; what the walk finds new goes behind them.
-use Rattle.std.specs.Prelude.{◌≡◌, true, false, Option, Some, None, List, ℕ, ◌≤◌, ◌<◌, length, drop}
+use Rattle.std.specs.Prelude.{◌≡◌, true, false, Option, Some, None, Ok, List, ℕ, ◌≤◌, ◌<◌, length, drop}
 use Rattle.words.specs.Reduced.{Stack, tags, GoodStack}
 use Rattle.words.specs.Reader.{Outcome, reduced, differ}
 use Rattle.lore.specs.Lore.{states_in}
 use Rattle.pieces.specs.declared.Piece.{Piece}
 use Rattle.pieces.specs.Pieces.{most_tags, pieces, PieceWithin}
 use Rattle.form.specs.Endings.{ending_of}
-use Rattle.form.specs.declared.Ending.TheVariants.{Page}
 use Rattle.template.specs.Grammar.{Gives}
 use Rattle.trees.specs.Trees.{Useful}
 use Rattle.trees.specs.Events.{Pair}
@@ -21,7 +20,7 @@ use Rattle.walk.specs.declared.Round.{Round}
 
 -- a page's form
 abbrev pub ValidForm : List ℕ → Stack Piece → Piece → Type 0
-ValidForm lore s c = ending_of lore s c ≡ Page
+ValidForm lore s c = ending_of lore s c ≡ Ok tt
 
 module _ (lore rules : List ℕ) where
   -- what the rules make of the pairs in a book

@@ -40,7 +40,7 @@ fn choices(s: pairs::Slot, n: usize) -> usize
     ensures { result ≡ choices s n }
 {
     match s {
-        pairs::Slot::Absent | pairs::Slot::Single(_, _) => 1,
+        pairs::Slot::Absent | pairs::Slot::Single(_) => 1,
         pairs::Slot::Rows(_) => n,
     }
 }
@@ -50,7 +50,7 @@ fn new_from(s: pairs::Slot, prev: usize, first: bool) -> usize
     ensures { result ≡ new_from s prev first }
 {
     match s {
-        pairs::Slot::Absent | pairs::Slot::Single(_, _) => usize::from(!first),
+        pairs::Slot::Absent | pairs::Slot::Single(_) => usize::from(!first),
         pairs::Slot::Rows(_) => prev,
     }
 }
@@ -109,7 +109,7 @@ fn renews(s: pairs::Slot, fresh: u64, first: bool) -> bool
     ensures { result ≡ renews s fresh first }
 {
     match s {
-        pairs::Slot::Absent | pairs::Slot::Single(_, _) => first,
+        pairs::Slot::Absent | pairs::Slot::Single(_) => first,
         pairs::Slot::Rows(x) => first | useful::marked(fresh, usize::from(x) % 64),
     }
 }

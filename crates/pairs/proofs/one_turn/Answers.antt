@@ -24,18 +24,23 @@ then_form-t-requires c = record { lore = c.requires.lore; holds = c.in-Some-a.en
 pub note_forms-requires : goal.note_forms-requires
 note_forms-requires c =
     record {
-      holds = c.in-Kept.ensures.holds;
+      holds = c.in-Ok.ensures.holds;
       table_long_in_bounds = c.requires.table_long_in_bounds;
       rows_le_most_images = c.requires.rows_le_most_images;
     }
 
-pub returns-in-Kept : goal.returns-in-Kept
-returns-in-Kept c =
-    search (turn_form, c.empty-empty.ensures, c.in-Some.ensures, c.in-Some-a.ensures, c.in-Kept.ensures, c.note_forms.ensures)
+pub returns-in-Ok : goal.returns-in-Ok
+returns-in-Ok c =
+    search (turn_form, c.empty-empty.ensures, c.in-Some.ensures, c.in-Some-a.ensures, c.in-Ok.ensures, c.note_forms.ensures)
 
-pub returns-in-Mismatch : goal.returns-in-Mismatch
-returns-in-Mismatch c = search (turn_mismatch, c.empty-empty.ensures, c.in-Some.ensures, c.in-Some-a.ensures, c.in-Mismatch.ensures)
+pub returns-in-Err-Mismatch : goal.returns-in-Err-Mismatch
+returns-in-Err-Mismatch c =
+    let is = rw c.in-Err-Mismatch.is at c.in-Err-Mismatch.field-0-is in
+    let told = rw (c.in-Err-Mismatch.is, is) at c.then_form-t.ensures in
+    search (turn_mismatch, c.empty-empty.ensures, c.in-Some.ensures, c.in-Some-a.ensures, told)
 
-pub returns-in-TooDeep : goal.returns-in-TooDeep
-returns-in-TooDeep c =
-    rw c.noted_deep.ensures (search (turn_deep, c.empty-empty.ensures, c.in-Some.ensures, c.in-Some-a.ensures, c.in-TooDeep.ensures))
+pub returns-in-Err-TooDeep : goal.returns-in-Err-TooDeep
+returns-in-Err-TooDeep c =
+    let is = rw c.in-Err-TooDeep.is at c.in-Err-TooDeep.field-0-is in
+    let told = rw (c.in-Err-TooDeep.is, is) at c.then_form-t.ensures in
+    rw c.noted_deep.ensures (search (turn_deep, c.empty-empty.ensures, c.in-Some.ensures, c.in-Some-a.ensures, told))
