@@ -13,14 +13,22 @@ use Rattle.template.specs.Layout.{most_rules, part_of, template_rules}
 use Rattle.template.specs.Grammar.{Gives}
 use Rattle.template.specs.Order.{reading}
 use Rattle.std.specs.Prelude.{Ok}
+use Rattle.std.specs.Borrow.{Bor}
 use Rattle.template.specs.declared.Shape.{Shape}
 use Rattle.template.proofs.SoundLaws.{reading_sound, sound_file}
 use Rattle.template.proofs.ShapeLaws.{shape_sound}
 use Rattle.template.proofs.ListLaws.{rules_count}
 use Rattle.trees.specs.Trees.{Productive, Useful, Reached}
+use Rattle.view.specs.Views.{templates_by, templates_shown, view_of}
+use Rattle.view.specs.declared.View.{View}
 use Rattle.useful.specs.Marks.{RulesInRange, MarksAll}
 use Rattle.useful.proofs.UsefulLaws.{marks_useful, sound_in_range}
 use Rattle.rounds.specs.Checks.{HasPage}
+
+-- the view of a file with its numbers shows this part of it
+pub part_viewed : {file : Bor (List ℕ)} (shape : Shape) {view : View} {rules : List ℕ} → view ≡ view_of file shape
+    → rules ≡ templates_shown view → rules ≡ templates_by file.now shape
+part_viewed shape e is = rw e at is
 
 module _ (f : List ℕ) {rules : List ℕ} {shape : Shape} (sound : reading f ≡ Ok shape)
     (part : rules ≡ part_of f 16 (4 * shape.templates)) where

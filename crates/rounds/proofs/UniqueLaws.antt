@@ -8,8 +8,7 @@ use Prim.Native.Nat.{ℕ, zero, suc, ◌≤◌, ◌<◌}
 use native.Mathlib.Omega.{arith}
 use lib.ListN.{length}
 use Rattle.std.specs.Prelude.{Ok, Err}
-use Rattle.template.specs.Order.{IsSound, reading}
-use Rattle.template.specs.Order.{faulty}
+use Rattle.template.specs.Order.{IsSound, reading, faulty, number}
 use Rattle.template.proofs.ShapeLaws.{sound_not_bad}
 use Rattle.trees.specs.Verdict.{Decision, met, passed, used, Decides}
 use Rattle.trees.proofs.BudgetLaws.{decides_unique}
@@ -101,7 +100,7 @@ module _ (f t : List ℕ) (budget : ℕ) where
 
   faulted_unique : Unique Faulted
   faulted_unique r s u v (p, e, (a, b)) (q, d, (a', b')) =
-      let same : p ≡ q = cc (sym e ∙ d) in
+      let same : p ≡ q = ap number (sym e ∙ d) in
       (a ∙ (ap (λ (k : ℕ). Err (check.BadFile k)) same ∙ sym a'), b ∙ sym b')
 
   -- all in their order

@@ -6,9 +6,8 @@ use Rattle.std.specs.Prelude.{◌≡◌, Ok, Err, ℕ, suc, ◌*◌, ◌-◌, �
 use mathlib.Core.List.{List, ◌++◌, Memᴰ}
 use Rattle.hedge.specs.Schema.{Valid}
 use Rattle.template.specs.Layout.{template_rules}
-use Rattle.template.specs.Order.{IsSound, reading}
+use Rattle.template.specs.Order.{IsSound, reading, faulty}
 use Rattle.template.specs.Grammar.{Symbol, Gives}
-use Rattle.template.specs.Order.{faulty}
 use Rattle.pieces.specs.declared.Piece.{Piece}
 use Rattle.pieces.specs.Pieces.{most_tags}
 use Rattle.schema.specs.Schemas.{schema_of, binoid_of}

@@ -1,7 +1,7 @@
 // The check of a template set: useful nonterminals, then rounds of the walk against a budget, over the one lent worktable.
 #![tactic(auto)]
 
-ghost use Rattle.std.specs.Prelude.{◌≡◌, ◌≤◌, length};
+ghost use Rattle.std.specs.Prelude.{◌≡◌, ◌≤◌, length, Ok};
 ghost use Rattle.template.specs.Layout.{template_rules};
 ghost use Rattle.template.specs.Order.{reading};
 ghost use Rattle.schema.specs.Schemas.{LoreOf};
@@ -11,6 +11,9 @@ ghost use Rattle.shares.specs.Shares.{Shares};
 ghost use Rattle.rounds.specs.Walking.{Met, event_refusal};
 ghost use Rattle.rounds.specs.Checks.{HasPage, Lent, CheckSays};
 ghost use Rattle.rounds.specs.Answers.{answer, number, images};
+ghost use Rattle.rounds.specs.declared.CheckRefusal.TheVariants.{BadFile};
+
+use view::View;
 
 // The most rounds that a budget allows.
 pub const ROUNDS: usize = worktable::IMAGES + 1;
@@ -34,6 +37,16 @@ pub enum CheckRefusal {
     BadFile(usize),
     BadBudget,
     ShortTable,
+}
+
+pub type CheckReply = Result<Passed, CheckRefusal>;
+
+impl From<entries::Fault> for CheckRefusal {
+    ghost from_gives = { λ fault refusal. refusal ≡ BadFile fault.place };
+
+    fn from(fault: entries::Fault) -> CheckRefusal {
+        CheckRefusal::BadFile(fault.place)
+    }
 }
 
 // What a round met, the lowest number first.
@@ -91,7 +104,7 @@ fn rounds(
     shares: &[u64; template::RULES],
     table: &mut [u64],
     budget: usize,
-) -> Result<Passed, CheckRefusal>
+) -> CheckReply
     requires file_value { reading file.now ≡ Ok shape }
     requires lore_of { LoreOf file.now lore.now }
     requires shares { Shares (template_rules file.now) shares.now }
@@ -99,7 +112,7 @@ fn rounds(
     requires lent { Lent file.now table.old budget }
     ensures { CheckSays file.now table.old budget result table.new }
 {
-    let rules = view::templates_of(file, shape);
+    let rules = View::of(file, shape).templates();
     let mut prev = 0;
     let mut n = 0;
     for r in 0..budget {
@@ -132,17 +145,12 @@ fn rounds(
 }
 
 // Checks a sound file of these numbers. What does not change between rounds is found here, once.
-fn check_sound(
-    file: &[u8],
-    shape: template::Shape,
-    table: &mut [u64],
-    budget: usize,
-) -> Result<Passed, CheckRefusal>
+fn check_sound(file: &[u8], shape: template::Shape, table: &mut [u64], budget: usize) -> CheckReply
     requires file_value { reading file.now ≡ Ok shape }
     requires lent { Lent file.now table.old budget }
     ensures { CheckSays file.now table.old budget result table.new }
 {
-    let rules = view::templates_of(file, shape);
+    let rules = View::of(file, shape).templates();
     let productive = useful::productive(rules);
     if !useful::marked(productive, 0) {
         return Err(CheckRefusal::NoPage);
@@ -156,7 +164,7 @@ fn check_sound(
 }
 
 // Checks a template set: the refusals 9, 8, 7 and 6 in this order, and only then the rounds (Rules, section 9).
-pub fn check(file: &[u8], table: &mut [u64], budget: usize) -> Result<Passed, CheckRefusal>
+pub fn check(file: &[u8], table: &mut [u64], budget: usize) -> CheckReply
     ensures { CheckSays file.now table.old budget result table.new }
 {
     if table.len() < worktable::TABLE {
@@ -165,15 +173,12 @@ pub fn check(file: &[u8], table: &mut [u64], budget: usize) -> Result<Passed, Ch
     if !(1..=ROUNDS).contains(&budget) {
         return Err(CheckRefusal::BadBudget);
     }
-    let r = template::read(file);
-    let template::Reading::Sound(shape) = r else {
-        return Err(CheckRefusal::BadFile(template::place(r)));
-    };
+    let shape = template::read(file)?;
     check_sound(file, shape, table, budget)
 }
 
 // The reply in numbers (Rules, section 9).
-pub fn answer(r: Result<Passed, CheckRefusal>) -> u32
+pub fn answer(r: CheckReply) -> u32
     ensures { result ≡ answer r }
 {
     match r {
@@ -190,24 +195,24 @@ pub fn answer(r: Result<Passed, CheckRefusal>) -> u32
     }
 }
 
-pub fn number(r: Result<Passed, CheckRefusal>) -> u64
+pub fn number(r: CheckReply) -> u64
     ensures { result ≡ number r }
 {
     match r {
         Ok(passed) => passed.rounds as u64,
-        Err(CheckRefusal::Mismatch(n)) => n as u64,
-        Err(CheckRefusal::Invalid(n)) => n as u64,
-        Err(CheckRefusal::TooDeep(n)) => n as u64,
-        Err(CheckRefusal::Crowded(n)) => n as u64,
-        Err(CheckRefusal::OutOfRounds(n)) => n as u64,
-        Err(CheckRefusal::NoPage) => 0,
-        Err(CheckRefusal::BadFile(n)) => n as u64,
-        Err(CheckRefusal::BadBudget) => 0,
-        Err(CheckRefusal::ShortTable) => 0,
+        Err(
+            CheckRefusal::Mismatch(n)
+            | CheckRefusal::Invalid(n)
+            | CheckRefusal::TooDeep(n)
+            | CheckRefusal::Crowded(n)
+            | CheckRefusal::OutOfRounds(n)
+            | CheckRefusal::BadFile(n),
+        ) => n as u64,
+        Err(CheckRefusal::NoPage | CheckRefusal::BadBudget | CheckRefusal::ShortTable) => 0,
     }
 }
 
-pub fn images(r: Result<Passed, CheckRefusal>) -> u64
+pub fn images(r: CheckReply) -> u64
     ensures { result ≡ images r }
 {
     match r {

@@ -19,7 +19,7 @@ use Rattle.shares.specs.Shares.{Shares}
 use Rattle.rounds.specs.Checks.{HasPage, Lent}
 use Rattle.rounds.specs.Walking.{Met}
 use Rattle.rounds.specs.declared.Event.{Event}
-use Rattle.rounds.proofs.PartLaws.{of_part, of_file, part_in_range, part_few}
+use Rattle.rounds.proofs.PartLaws.{part_viewed, of_part, of_file, part_in_range, part_few}
 use Rattle.rounds.proofs.StateLaws.{AfterRound, start_state, next_round, state_begins}
 use Rattle.rounds.proofs.EndLaws.{Turn, ends_used, ends_event, ends_passed, goes_on}
 use Rattle.rounds.proofs.rounds.Goals as goal
@@ -49,7 +49,7 @@ walk_round-walked-requires c =
     let lore = c.args.lore.now in
     let sound = c.requires.file_value in
     let whole = shape_sound f c.args.shape sound in
-    let part = c.templates_of-rules.ensures in
+    let part = part_viewed c.args.shape c.of.ensures c.templates-rules.ensures in
     let state = c.loop-r.invariant in
     let round = next_round c.loop-r.r c.loop-r.prev c.loop-r.n in
     record {
@@ -67,21 +67,21 @@ pub returns-in-Err : goal.returns-in-Err
 returns-in-Err c =
     ends_event
     (turn _ _ _ _ _ _ _ _ _ _ _ c.requires.file_value c.requires.lore_of c.requires.has_page c.requires.lent c.loop-r.invariant
-    c.loop-r-test.true c.templates_of-rules.ensures c.walk_round-walked.ensures c.in-Err.ensures)
+    c.loop-r-test.true (part_viewed c.args.shape c.of.ensures c.templates-rules.ensures) c.walk_round-walked.ensures c.in-Err.ensures)
     c.event_refusal.ensures c.wipe.ensures
 
 pub returns-then-m-n : goal.returns-then-m-n
 returns-then-m-n c =
     ends_passed
     (turn _ _ _ _ _ _ _ _ _ _ _ c.requires.file_value c.requires.lore_of c.requires.has_page c.requires.lent c.loop-r.invariant
-    c.loop-r-test.true c.templates_of-rules.ensures c.walk_round-walked.ensures c.in-Ok.ensures)
+    c.loop-r-test.true (part_viewed c.args.shape c.of.ensures c.templates-rules.ensures) c.walk_round-walked.ensures c.in-Ok.ensures)
     c.if-m-n.true c.sort.ensures c.clear.ensures
 
 pub loop-r-preserved : goal.loop-r-preserved
 loop-r-preserved c =
     goes_on
     (turn _ _ _ _ _ _ _ _ _ _ _ c.requires.file_value c.requires.lore_of c.requires.has_page c.requires.lent c.loop-r.invariant
-    c.loop-r-test.true c.templates_of-rules.ensures c.walk_round-walked.ensures c.in-Ok.ensures)
+    c.loop-r-test.true (part_viewed c.args.shape c.of.ensures c.templates-rules.ensures) c.walk_round-walked.ensures c.in-Ok.ensures)
     c.if-m-n.false
 
 pub returns : goal.returns
