@@ -1,5 +1,5 @@
 -- How many digits a number has (specs/Decimal.antt): one below ten, else one more than its tenth part, whatever bounds the turns; a number
--- below 10 ^ k has at most k. Then what counting has after each turn, for `search counts`. Assumes nothing.
+-- below 10 ^ k has at most k. Assumes nothing.
 use mathlib.Core.Path.{◌≡◌, refl}
 use Prim.Native.Nat.{ℕ, zero, suc, ◌+◌, ◌*◌, ◌/◌, ◌^◌, ◌≤◌, ◌<◌}
 use native.Mathlib.Nat.{pow-suc}
@@ -7,7 +7,6 @@ use native.Mathlib.Decide.{dec_lt}
 use native.Mathlib.Omega.{arith}
 use mir.Syntax.{w64}
 use mir.Val.{Fits}
-use borrow.Author.Rules.{rules}
 use borrow.Author.Tests.{lt-ltb, le-ltb}
 use Rattle.line.specs.Decimal.{most_digits, places_within, places}
 
@@ -53,24 +52,3 @@ places_most (suc k) n h =
 
 pub places_few : (n : ℕ) → Fits w64 n → places n ≤ most_digits
 places_few n f = places_most 19 n (omega (arith, f.fits))
-
--- ---- counting: k digits found, and those of the rest but one
-
-module _ (n : ℕ) where
-  pub count_none : 1 + places n ≡ 1 + places n
-  count_none = refl
-
-  module _ (k rest : ℕ) (so_far : k + places rest ≡ 1 + places n) where
-    pub count_fits : Fits w64 n → Fits w64 (k + 1)
-    count_fits f = let most = places_few n f in let some = places_some rest in record { fits = omega arith }
-
-    pub count_next : 10 ≤ rest → k + 1 + places (rest / 10) ≡ 1 + places n
-    count_next h = let e = places_large rest h in omega (arith, e, so_far)
-
-    pub count_end : rest < 10 → k ≡ places n
-    count_end h = let e = places_small rest h in omega (arith, e, so_far)
-
-    pub count_few : rest < 10 → Fits w64 n → k ≤ most_digits
-    count_few h f = let most = places_few n f in let e = count_end h in omega (arith, e, most)
-
-pub ruleset counts = (count_none, count_fits, count_next, count_end, count_few, rules)

@@ -147,6 +147,8 @@ room_decides f t l t' p =
           record {
             reply = p.reply;
             says = cut_says room f (omega arith) (omega arith) t most_rounds p.reply t' p.says;
-            shows = p.shows;
+            answer_is = p.answer_is;
+            number_is = p.number_is;
+            images_is = p.images_is;
           }
     ]

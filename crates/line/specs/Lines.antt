@@ -1,6 +1,6 @@
 -- The line that the program prints for a file (Rules, section 11): the answer, the number and the images of a check with the largest
 -- budget, in decimal, with single spaces and a newline.
-use Rattle.std.specs.Prelude.{◌≡◌, List, [], ◌∷◌, ◌++◌, ℕ, ◌+◌, ◌-◌, ◌*◌, length, take, drop, replicate}
+use Rattle.std.specs.Prelude.{◌≡◌, List, [], ◌∷◌, ◌++◌, ℕ, ◌+◌, ◌*◌}
 use Rattle.template.specs.Layout.{longest_file}
 use Rattle.rounds.specs.declared.CheckReply.{CheckReply}
 use Rattle.rounds.specs.Checks.{most_rounds, CheckSays}
@@ -26,17 +26,14 @@ newline = 10
 abbrev pub line_of : ℕ → ℕ → ℕ → List ℕ
 line_of a n m = decimal a ++ (space ∷ (decimal n ++ (space ∷ (decimal m ++ (newline ∷ [])))))
 
--- entries written over those of a list from a place on
-unfoldable pub over_from : ℕ → List ℕ → List ℕ → List ℕ
-over_from at xs out = take at out ++ (xs ++ drop (at + length xs) out)
-
--- a line shows a text: that it is, and zeros behind it
-pub record Shows (l : Line) (text : List ℕ) : Type 0 where
-  pub length_is : l.len ≡ length text
-  pub bytes_are : l.bytes ≡ text ++ replicate (longest_line - length text) 0
+-- the text of a line
+abbrev pub text_of : Line → List ℕ
+text_of l = line_of l.answer l.number l.images
 
 -- the line is that of what the check of the file answers, and the worktable is left as the check leaves it
 pub record Prints (f t : List ℕ) (l : Line) (t' : List ℕ) : Type 0 where
   pub reply : CheckReply
   pub says : CheckSays f t most_rounds reply t'
-  pub shows : Shows l (line_of (answer reply) (number reply) (images reply))
+  pub answer_is : l.answer ≡ answer reply
+  pub number_is : l.number ≡ number reply
+  pub images_is : l.images ≡ images reply

@@ -1,6 +1,6 @@
 -- What the reads put into the buffer, of the bytes that the reader had: each read goes on where the last one ended; at the reader's end they
 -- are all of its bytes, and else, where the buffer is full, the first ones. Assumes nothing.
-use Rattle.std.proofs.Common.{◌≡◌, ℕ, ◌+◌, ◌≤◌, List, ◌++◌, length, take, drop, Option, None, Some, IfSome, sym, ap, ◌∙◌, subst, take_all, take_at, drop_at, length-take-le, append-nil, length-take, arith}
+use Rattle.std.proofs.Common.{◌≡◌, ℕ, ◌+◌, ◌≤◌, List, ◌++◌, length, take, drop, Option, None, Some, IfSome, sym, ap, ◌∙◌, subst, take_all, take_at, drop_at, length-take-le, append-nil, add-zero, length-take, arith}
 use Rattle.std.proofs.KnownBytes.{Consumes-trans, Consumes-kept}
 use Rattle.std.specs.Io.KnownBytes.{Consumes, Keeps, IsAtEnd}
 use borrow.Rule.Slice.PartMut.{put_mid, post_of, take_put}
@@ -37,7 +37,9 @@ module _ (a b c : Option (List ℕ)) (at k : ℕ) (xs ys : List ℕ) (within : a
   pub read_none : Keeps b c → Consumes a c (take at (put_mid at k xs ys))
   read_none kept = subst (Consumes a c) (sym (take_put at k xs ys within)) (Consumes-kept a b c (take at xs) before kept)
 
-  pub read_ended : (most : ℕ) → at ≤ most → Keeps b c → IsAtEnd c → IfSome a (λ all. take at (put_mid at k xs ys) ≡ take most all)
-  read_ended most few kept end =
+  pub read_ended : (most n : ℕ) → at ≤ most → n ≡ 0 → Consumes b c (take n ys) → IsAtEnd c
+      → IfSome a (λ all. take at (put_mid at k xs ys) ≡ take most all)
+  read_ended most n few no_more none end =
       let read = put_mid at k xs ys in
-      read_to_end a c (take at read) most (read_none kept) end (omega (arith, length-take at read, few))
+      let all : Consumes a c (take at read) = rw (no_more, add-zero at) at (read_more n (omega arith) none) in
+      read_to_end a c (take at read) most all end (omega (arith, length-take at read, few))

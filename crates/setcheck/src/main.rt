@@ -2,121 +2,82 @@
 // read to its end, or further than any sound file goes. Where a read fails or the line cannot be written, a sentence on standard error says so.
 #![tactic(auto)]
 
-ghost use Rattle.std.specs.Prelude.{◌≡◌, length, OnOk};
+ghost use Rattle.std.specs.Prelude.{◌≡◌, ◌≤◌, length, OnOk, IfOk};
 ghost use Rattle.line.specs.Lines.{room};
-ghost use Rattle.setcheck.specs.Inputs.{GivenWithin, ReadWithin, GivenFrom, ReadFrom};
+ghost use Rattle.setcheck.specs.Inputs.{ReadFrom};
 ghost use Rattle.setcheck.specs.Lines.{IsPrinted, IsAnswered};
 
-use std::io;
+use std::fmt::Write as _;
 use std::io::{ErrorKind, Read, Write};
+use std::{fmt, io};
 
-// What one read gave.
-#[derive(Clone, Copy)]
-enum Given {
-    Bytes(usize),
-    End,
-    Interrupted,
-    Failed,
-}
-
-// What all reads gave: the bytes at the start of the buffer, or a failure.
-#[derive(Clone, Copy)]
-enum Input {
-    Whole(usize),
-    Unread,
-}
-
-// What came of an input.
-#[derive(Clone, Copy)]
-enum Outcome {
-    Printed,
+// Why no line was printed.
+#[derive(Clone, Copy, Debug, PartialEq, Eq)]
+enum Failure {
     Unread,
     Unwritten,
 }
 
-// One read, to the start of the buffer.
-fn read_once<R: Read>(reader: &mut R, buffer: &mut [u8]) -> Given
-    ensures within { GivenWithin result (length buffer.old) }
-    ensures from { GivenFrom result (R.remaining reader.old) (R.remaining reader.new) buffer.new }
-{
-    match reader.read(buffer) {
-        Ok(0) => Given::End,
-        Ok(n) => Given::Bytes(n),
-        Err(e) => {
-            if e.kind() == ErrorKind::Interrupted {
-                Given::Interrupted
-            } else {
-                Given::Failed
-            }
+impl fmt::Display for Failure {
+    fn fmt<W: fmt::Write>(&self, f: &mut fmt::Formatter<W>) -> fmt::Result {
+        match self {
+            Failure::Unread => write!(f, "standard input could not be read"),
+            Failure::Unwritten => write!(f, "the line could not be written"),
         }
     }
 }
 
-// Reads to the end of the input, or until the buffer is full. Nothing says that interruptions end, and a proved loop has to: so it counts
-// its turns down, from a number that no run uses up.
-fn read_input<R: Read>(reader: &mut R, buffer: &mut [u8]) -> Input
+// Reads to the end of the input, or until the buffer is full. Nothing says that interruptions end, and a proved loop has to: so its turns are
+// counted, up to a number that no run uses up.
+fn read_input<R: Read>(reader: &mut R, buffer: &mut [u8]) -> Result<usize, Failure>
     requires { room ≡ length buffer.old }
-    ensures within { ReadWithin result (length buffer.old) }
+    ensures within { IfOk result (λ n. n ≤ length buffer.old) }
     ensures from { ReadFrom result (R.remaining reader.old) buffer.new }
 {
     let mut at = 0;
-    let mut turns = u64::MAX;
-    while at < buffer.len() {
-        if turns == 0 {
-            return Input::Unread;
+    for _ in 0..u64::MAX {
+        if at == buffer.len() {
+            return Ok(at);
         }
-        turns -= 1;
-        let given = read_once(reader, &mut buffer[at..]);
-        match given {
-            Given::Bytes(n) => {
-                at += n;
-            }
-            Given::End => {
-                return Input::Whole(at);
-            }
-            Given::Interrupted => {}
-            Given::Failed => {
-                return Input::Unread;
+        match reader.read(&mut buffer[at..]) {
+            Ok(0) => return Ok(at),
+            Ok(n) => at += n,
+            Err(e) => {
+                if e.kind() != ErrorKind::Interrupted {
+                    return Err(Failure::Unread);
+                }
             }
         }
     }
-    Input::Whole(at)
+    Err(Failure::Unread)
 }
 
-// Writes the file's line.
+// Writes the file's line, in one piece: its text is put together first.
 fn print_line<W: Write>(writer: &mut W, file: &[u8]) -> io::Result<()>
     ensures { OnOk result (IsPrinted file.now (W.contents writer.old) (W.contents writer.new)) }
 {
     let mut table = [0u64; worktable::TABLE];
     let line = line::checked(file, &mut table);
-    let bytes = line.bytes;
-    let n = line.len;
-    writer.write_all(&bytes[..n])
+    let mut text = fmt::InlineText::<{ line::LONGEST }>::new();
+    write!(text, "{line}")?;
+    let bytes = text.as_str().as_bytes();
+    writer.write_all(bytes)
 }
 
 // Reads an input of any length and writes its line.
-fn answer<R: Read, W: Write>(reader: &mut R, writer: &mut W) -> Outcome
+fn answer<R: Read, W: Write>(reader: &mut R, writer: &mut W) -> Result<(), Failure>
     ensures { IsAnswered result (R.remaining reader.old) (W.contents writer.old) (W.contents writer.new) }
 {
     let mut buffer = [0u8; line::ROOM];
-    let input = read_input(reader, &mut buffer);
-    let Input::Whole(n) = input else {
-        return Outcome::Unread;
-    };
+    let n = read_input(reader, &mut buffer)?;
     match print_line(writer, &buffer[..n]) {
-        Ok(()) => Outcome::Printed,
-        Err(_) => Outcome::Unwritten,
+        Ok(()) => Ok(()),
+        Err(_) => Err(Failure::Unwritten),
     }
 }
 
-fn complain(rt: &impl Eprint, sentence: &str) {
-    let _ = eprintln!(rt; "setcheck: {sentence}");
-}
-
 fn main(rt: HostRuntime) {
-    match answer(&mut rt.stdin(), &mut rt.stdout()) {
-        Outcome::Printed => {}
-        Outcome::Unread => complain(&rt, "standard input could not be read"),
-        Outcome::Unwritten => complain(&rt, "the line could not be written"),
+    if let Err(failure) = answer(&mut rt.stdin(), &mut rt.stdout()) {
+        let _ = eprintln!(rt; "setcheck: {failure}");
     }
 }
