@@ -19,12 +19,11 @@ use std::io::Read;
 // How many bytes of the input are looked at.
 const READ: usize = 65536;
 
-// Where the next case stands, and the file that it stands under.
+// What is left of the input, and the file that the next case stands under.
 #[derive(Clone, Copy)]
-struct Cursor {
-    at: usize,
-    from: usize,
-    to: usize,
+struct Cursor<'a> {
+    rest: &'a [u8],
+    file: &'a [u8],
 }
 
 // A case by its letter.
@@ -42,59 +41,31 @@ fn run(rt: &impl Print, letter: u8, file: &[u8], bytes: &[u8]) -> io::Result<()>
     }
 }
 
-// Behind a case of these bytes: a file is the one that the next cases stand under.
-fn behind(letter: u8, c: Cursor, from: usize, to: usize) -> Cursor {
-    let file = letter == b'F';
-    Cursor {
-        at: to,
-        from: if file { from } else { c.from },
-        to: if file { to } else { c.to },
+// The first case of what is left, if one is there, and what is left behind it. A file is the one that the next cases stand under.
+fn one<'a>(rt: &impl Print, c: Cursor<'a>) -> io::Result<Option<Cursor<'a>>> {
+    if c.rest.len() < 3 {
+        return Ok(None);
     }
-}
-
-// The case at a place: answers where the next one starts, or the input's end, and its file.
-fn one(rt: &impl Print, input: &[u8], c: Cursor) -> io::Result<Cursor> {
-    let n = input.len();
-    let at = c.at;
-    let end = Cursor {
-        at: n,
-        from: 0,
-        to: 0,
+    let letter = c.rest[0];
+    let len = print::half(c.rest[1], c.rest[2]);
+    let Some((bytes, rest)) = c.rest[3..].split_at_checked(len) else {
+        return Ok(None);
     };
-    if n < 3 {
-        return Ok(end);
-    }
-    if n - 3 < at {
-        return Ok(end);
-    }
-    let letter = input[at];
-    let len = numbers::wide(input[at + 1]) + 256 * numbers::wide(input[at + 2]);
-    let from = at + 3;
-    if n - from < len {
-        return Ok(end);
-    }
-    let to = from + len;
-    let file_from = c.from;
-    let file_to = c.to;
-    if file_to <= n {
-        if file_from <= file_to {
-            run(rt, letter, &input[file_from..file_to], &input[from..to])?;
-        }
-    }
-    Ok(behind(letter, c, from, to))
+    run(rt, letter, c.file, bytes)?;
+    let file = if letter == b'F' { bytes } else { c.file };
+    Ok(Some(Cursor { rest, file }))
 }
 
 fn all(rt: &impl Print, input: &[u8]) -> io::Result<()> {
     let mut c = Cursor {
-        at: 0,
-        from: 0,
-        to: 0,
+        rest: input,
+        file: &[],
     };
     for _ in 0..10000 {
-        if input.len() <= c.at {
+        let Some(next) = one(rt, c)? else {
             return Ok(());
-        }
-        c = one(rt, input, c)?;
+        };
+        c = next;
     }
     Ok(())
 }

@@ -2,7 +2,7 @@
 ghost use Rattle.std.specs.Prelude.{◌+◌, ◌≤◌, length};
 ghost use Rattle.pieces.specs.Pieces.{most_tags};
 
-use crate::print::{answer, entry, last_word, word};
+use crate::print::{answer, last_word, word, words};
 use std::io;
 
 // Where the parts of a struct in a case's bytes begin: ends, starts, 16 names, 17 relations of eight bytes, 17 counts of outermost elements of
@@ -23,16 +23,11 @@ pub fn show_page(rt: &impl Print, file: &[u8], bytes: &[u8]) -> io::Result<()> {
 
 // The ends, the starts, the names, the relations and the counts of outermost elements, all of them.
 fn show_summary(rt: &impl Print, s: form::Summary) -> io::Result<()> {
-    let c = s.counts;
-    word(rt, c.ends as u64)?;
-    word(rt, c.starts as u64)?;
-    let names = s.names;
-    let values = s.values;
-    for name in &names {
-        word(rt, entry(*name))?;
-    }
-    show_relations(rt, &values)?;
-    show_outermost(rt, &values)
+    word(rt, s.counts.ends)?;
+    word(rt, s.counts.starts)?;
+    words(rt, &s.names)?;
+    show_relations(rt, &s.values)?;
+    show_outermost(rt, &s.values)
 }
 
 fn show_relations(rt: &impl Print, values: &[u64; pieces::PIECES]) -> io::Result<()> {
@@ -56,43 +51,35 @@ pub fn show_fragment(rt: &impl Print, file: &[u8], bytes: &[u8]) -> io::Result<(
     let r = summary::fragment(file, bytes);
     let a = r.answer;
     answer(rt, summary::fragment_answer(a), summary::fragment_number(a))?;
-    let s = r.summary;
-    show_summary(rt, s)
+    show_summary(rt, r.summary)
 }
 
 fn show_join(rt: &impl Print, r: summary::JoinReply) -> io::Result<()> {
     let a = r.answer;
     answer(rt, summary::join_answer(a), summary::join_number(a))?;
-    let s = r.summary;
-    show_summary(rt, s)
+    show_summary(rt, r.summary)
 }
 
 // Joins the summaries of two runs of bytes, the first as long as the first byte says.
 pub fn join_fragments(rt: &impl Print, file: &[u8], bytes: &[u8]) -> io::Result<()> {
-    if bytes.len() < 1 {
+    let Some((cut, bytes)) = bytes.split_first() else {
         return Ok(());
-    }
-    let cut = 1 + numbers::wide(bytes[0]);
-    if bytes.len() < cut {
+    };
+    let Some((left, right)) = bytes.split_at_checked(usize::from(*cut)) else {
         return Ok(());
-    }
-    let left = summary::fragment(file, &bytes[1..cut]);
-    let right = summary::fragment(file, &bytes[cut..]);
-    let l = left.summary;
-    let r = right.summary;
-    let j = summary::join(file, l, r);
-    show_join(rt, j)
+    };
+    let left = summary::fragment(file, left);
+    let right = summary::fragment(file, right);
+    show_join(rt, summary::join(file, left.summary, right.summary))
 }
 
 // The number of eight bytes at a place, the first lowest.
 fn relation_at(bytes: &[u8], at: usize) -> u64
     requires { at + 8 ≤ length bytes.now }
 {
-    let mut r = 0u64;
-    for k in (0..8).rev() {
-        r = (r << 8) | entry(bytes[at + k]);
-    }
-    r
+    let mut eight = [0u8; 8];
+    eight.copy_from_slice(&bytes[at..at + 8]);
+    u64::from_le_bytes(eight)
 }
 
 // The names of the struct at a place.
@@ -100,9 +87,7 @@ fn names_at(bytes: &[u8], at: usize) -> [u8; pieces::TAGS]
     requires { at + 171 ≤ length bytes.now }
 {
     let mut names = [0u8; pieces::TAGS];
-    for k in 0..pieces::TAGS {
-        names[k] = bytes[at + NAMES + k];
-    }
+    names.copy_from_slice(&bytes[at + NAMES..at + RELATIONS]);
     names
 }
 
@@ -110,10 +95,9 @@ fn names_at(bytes: &[u8], at: usize) -> [u8; pieces::TAGS]
 fn piece_in(bytes: &[u8], at: usize, k: usize) -> pieces::Piece
     requires { (at + 171 ≤ length bytes.now) × (k ≤ most_tags) }
 {
-    let relation = relation_at(bytes, at + RELATIONS + 8 * k);
     pieces::Piece {
-        relation: relation,
-        outermost: entry(bytes[at + COUNTS + k]),
+        relation: relation_at(bytes, at + RELATIONS + 8 * k),
+        outermost: u64::from(bytes[at + COUNTS + k]),
     }
 }
 
@@ -133,7 +117,7 @@ fn summary_at(bytes: &[u8], at: usize) -> form::Summary
     requires { at + 171 ≤ length bytes.now }
 {
     form::Summary {
-        counts: form::counted(numbers::wide(bytes[at]), numbers::wide(bytes[at + 1])),
+        counts: form::counted(usize::from(bytes[at]), usize::from(bytes[at + 1])),
         names: names_at(bytes, at),
         values: values_at(bytes, at),
     }
@@ -145,8 +129,7 @@ pub fn join_structs(rt: &impl Print, file: &[u8], bytes: &[u8]) -> io::Result<()
     }
     let left = summary_at(bytes, 0);
     let right = summary_at(bytes, STRUCT);
-    let j = summary::join(file, left, right);
-    show_join(rt, j)
+    show_join(rt, summary::join(file, left, right))
 }
 
 // The net depths that cases have, spelled out.
