@@ -6,8 +6,9 @@ use Prim.Native.Nat.{ℕ, ◌≤◌}
 use native.Mathlib.Omega.{arith}
 use lib.ListN.{length}
 use Rattle.worktable.specs.Packed.{table_long}
-use Rattle.rounds.specs.declared.CheckReply.{CheckReply}
-use Rattle.rounds.specs.declared.CheckReply.TheVariants as check
+use Rattle.std.specs.Prelude.{Ok, Err}
+use Rattle.rounds.specs.declared.CheckRefusal.TheVariants as check
+use Rattle.rounds.specs.Replies.{CheckReply}
 use Rattle.rounds.specs.Checks.{most_rounds, CheckSays}
 use Rattle.rounds.specs.Answers.{answer}
 use Rattle.rounds.proofs.BudgetLaws.{check_decided}
@@ -16,16 +17,16 @@ use Rattle.line.specs.declared.Line.{Line}
 
 module _ (f t : List ℕ) (enough : table_long ≤ length t) where
   answers_few : (r : CheckReply) (t' : List ℕ) → CheckSays f t most_rounds r t' → answer r ≤ 7
-  answers_few (check.Passed r n) t' says = omega arith
-  answers_few (check.Mismatch r) t' says = omega arith
-  answers_few (check.Invalid r) t' says = omega arith
-  answers_few (check.TooDeep r) t' says = omega arith
-  answers_few (check.Crowded r) t' says = omega arith
-  answers_few (check.OutOfRounds b) t' says = omega arith
-  answers_few check.NoPage t' says = omega arith
-  answers_few (check.BadFile p) t' says = omega arith
-  answers_few check.BadBudget t' (_, refused, _) = absurd (refused (omega arith, omega arith))
-  answers_few check.ShortTable t' (short, _) = omega (arith, enough, short)
+  answers_few (Ok passed) t' says = omega arith
+  answers_few (Err (check.Mismatch r)) t' says = omega arith
+  answers_few (Err (check.Invalid r)) t' says = omega arith
+  answers_few (Err (check.TooDeep r)) t' says = omega arith
+  answers_few (Err (check.Crowded r)) t' says = omega arith
+  answers_few (Err (check.OutOfRounds b)) t' says = omega arith
+  answers_few (Err check.NoPage) t' says = omega arith
+  answers_few (Err (check.BadFile p)) t' says = omega arith
+  answers_few (Err check.BadBudget) t' (_, refused, _) = absurd (refused (omega arith, omega arith))
+  answers_few (Err check.ShortTable) t' (short, _) = omega (arith, enough, short)
 
   pub line_decides : (l : Line) (t' : List ℕ) (p : Prints f t l t') → (answer p.reply ≤ 7) × (answer p.reply ≡ 5 → ⊥)
   line_decides l t' p = (answers_few p.reply t' p.says, check_decided f t p.reply t' p.says)

@@ -23,8 +23,9 @@ use Rattle.template.specs.Layout.{ending_start, bodies_end}
 use Rattle.template.specs.Order.{head_tests, contents_tests, bodies, tests, IsSound, shape_of, reading_of, reading}
 use Rattle.entries.proofs.OrderLaws.{first_append, ok_holds}
 use Rattle.template.proofs.SoundLaws.{sound_file, sound_length}
-use Rattle.rounds.specs.declared.CheckReply.{CheckReply}
-use Rattle.rounds.specs.declared.CheckReply.TheVariants as check
+use Rattle.std.specs.Prelude.{Ok, Err}
+use Rattle.rounds.specs.declared.CheckRefusal.TheVariants as check
+use Rattle.rounds.specs.Replies.{CheckReply}
 use Rattle.rounds.specs.Checks.{most_rounds, CheckSays}
 use Rattle.line.specs.Lines.{room, Prints}
 use Rattle.line.specs.declared.Line.{Line}
@@ -126,16 +127,16 @@ module _ (n : ℕ) (f : List ℕ) (some : longest_file < n) (long : n ≤ length
   cut_bad s = let most = sound_length (take n f) (sound_file (take n f) s) in omega (arith, most, cut_length)
 
   pub cut_says : (t : List ℕ) (budget : ℕ) (r : CheckReply) (t' : List ℕ) → CheckSays (take n f) t budget r t' → CheckSays f t budget r t'
-  cut_says t budget (check.Passed r m) t' ((_, s, _, _), _) = absurd (cut_bad s)
-  cut_says t budget (check.Mismatch r) t' ((_, s, _, _), _) = absurd (cut_bad s)
-  cut_says t budget (check.Invalid r) t' ((_, s, _, _), _) = absurd (cut_bad s)
-  cut_says t budget (check.TooDeep r) t' ((_, s, _, _), _) = absurd (cut_bad s)
-  cut_says t budget (check.Crowded r) t' ((_, s, _, _), _) = absurd (cut_bad s)
-  cut_says t budget (check.OutOfRounds b) t' (_, (_, s, _, _), _) = absurd (cut_bad s)
-  cut_says t budget check.NoPage t' (_, s, _, _) = absurd (cut_bad s)
-  cut_says t budget (check.BadFile p) t' (lent, e, same) = (lent, sym cut_reading ∙ e, same)
-  cut_says t budget check.BadBudget t' a = a
-  cut_says t budget check.ShortTable t' a = a
+  cut_says t budget (Ok passed) t' ((_, s, _, _), _) = absurd (cut_bad s)
+  cut_says t budget (Err (check.Mismatch r)) t' ((_, s, _, _), _) = absurd (cut_bad s)
+  cut_says t budget (Err (check.Invalid r)) t' ((_, s, _, _), _) = absurd (cut_bad s)
+  cut_says t budget (Err (check.TooDeep r)) t' ((_, s, _, _), _) = absurd (cut_bad s)
+  cut_says t budget (Err (check.Crowded r)) t' ((_, s, _, _), _) = absurd (cut_bad s)
+  cut_says t budget (Err (check.OutOfRounds b)) t' (_, (_, s, _, _), _) = absurd (cut_bad s)
+  cut_says t budget (Err check.NoPage) t' (_, s, _, _) = absurd (cut_bad s)
+  cut_says t budget (Err (check.BadFile p)) t' (lent, e, same) = (lent, sym cut_reading ∙ e, same)
+  cut_says t budget (Err check.BadBudget) t' a = a
+  cut_says t budget (Err check.ShortTable) t' a = a
 
 -- ---- the line
 

@@ -2,7 +2,7 @@
 -- budget, in decimal, with single spaces and a newline.
 use Rattle.std.specs.Prelude.{◌≡◌, List, [], ◌∷◌, ◌++◌, ℕ, ◌+◌, ◌*◌}
 use Rattle.template.specs.Layout.{longest_file}
-use Rattle.rounds.specs.declared.CheckReply.{CheckReply}
+use Rattle.rounds.specs.Replies.{CheckReply}
 use Rattle.rounds.specs.Checks.{most_rounds, CheckSays}
 use Rattle.rounds.specs.Answers.{answer, number, images}
 use Rattle.line.specs.Decimal.{most_digits, decimal}
