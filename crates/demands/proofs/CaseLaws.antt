@@ -29,11 +29,11 @@ use Rattle.summary.specs.Fragments.{FragmentSays}
 use Rattle.summary.specs.Joins.{SummaryUnder, JoinSays}
 use Rattle.summary.specs.Answers.{fragment_answer, join_answer, join_number}
 use Rattle.form.specs.declared.Summary.{Summary}
-use Rattle.summary.specs.declared.JoinReply.{JoinReply}
-use Rattle.summary.specs.declared.DepthReply.TheVariants.{Net}
+use Rattle.summary.specs.Replies.{JoinReply}
+use Rattle.std.specs.Prelude.{Ok}
 use Rattle.summary.proofs.MeaningLaws.{fragment_under}
 use Rattle.summary.proofs.UniqueLaws.{fragment_unique, join_unique, depth_unique}
-use Rattle.summary.specs.declared.FragmentReply.{FragmentReply}
+use Rattle.summary.specs.Replies.{FragmentReply}
 use Rattle.page.specs.Pages.{answer, number}
 use Rattle.page.proofs.UniqueLaws.{page_unique}
 use Rattle.demands.specs.Cases.{K, Case, page, fragment, depth, joined, refused, CaseHolds, cases, AllHold}
@@ -116,8 +116,8 @@ run_holds (page bytes _ _) e = λ r says. rw (page_unique K bytes r (page_of K b
 run_holds (fragment bytes _ _ _ _) e = λ r says. rw (fragment_is bytes r says) (cc e, (cc e, cc e, cc e, cc e))
 run_holds (depth bytes _) e = λ r d says deep.
     let m = (fragment_of K bytes).summary in
-    let net-is : d ≡ Net (net (form_of m)) =
-    depth_unique K m d (Net (net (form_of m))) (rw (fragment_is bytes r says) at deep) (sound, summary-under bytes (cc e), refl) in
+    let net-is : d ≡ Ok (net (form_of m)) =
+    depth_unique K m d (Ok (net (form_of m))) (rw (fragment_is bytes r says) at deep) (sound, summary-under bytes (cc e), refl) in
     rw (fragment_is bytes r says, net-is) (cc e, refl, cc e)
 run_holds (joined u v _ _ _ _) e = λ r s j p q says.
     rw (join_is u v (cc e) (cc e) r s j p q says) (cc e, (cc e, cc e, cc e, cc e))

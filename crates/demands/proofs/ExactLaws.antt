@@ -1,6 +1,7 @@
 -- The answers of the rounds are exact (specs/Third.antt). The rounds come to one decision, and each reply stands for one: so a reply's
 -- number and round are given exactly where the rounds come to that decision. The answer does not hang on the table that is lent, as each
 -- reply is also one under any other. Assumes nothing.
+use Rattle.std.specs.Prelude.{Ok, Err}
 use mathlib.Core.Path.{◌≡◌, refl, ap₂, subst}
 use mathlib.Core.List.{List}
 use Prim.Native.Nat.{ℕ, ◌≤◌}
@@ -13,8 +14,8 @@ use Rattle.trees.proofs.BudgetLaws.{met_not_passed, met_not_used, passed_not_use
 use Rattle.worktable.specs.Packed.{table_long}
 use Rattle.rounds.specs.Checks.{EventOf, NewOf, HasPage, Rows, after_pass, zeroed, Lent, Decided, CheckSays}
 use Rattle.rounds.specs.Answers.{answer, number, images}
-use Rattle.rounds.specs.declared.CheckReply.{CheckReply}
-use Rattle.rounds.specs.declared.CheckReply.TheVariants as check
+use Rattle.rounds.specs.Replies.{CheckReply}
+use Rattle.rounds.specs.declared.CheckRefusal.TheVariants as check
 use Rattle.demands.specs.Third.{Exact}
 use Rattle.demands.proofs.Sides.{neither}
 
@@ -59,16 +60,16 @@ module _ (f : List ℕ) (budget : ℕ) where
 
   pub check_exact : (t u : List ℕ) (r : CheckReply) → CheckSays f t budget r u → Lent f t budget → IsSound f → HasPage f
       → Exact f budget (answer r) (number r) (images r)
-  check_exact t u (check.Passed r n) ((_, _, _, comes), (rows, made, many, _)) lent sound page = passed_exact r n comes rows made many
-  check_exact t u (check.Mismatch r) ((_, _, _, comes), _) lent sound page = met_exact r 1 (omega arith) (omega arith) comes
-  check_exact t u (check.Invalid r) ((_, _, _, comes), _) lent sound page = met_exact r 2 (omega arith) (omega arith) comes
-  check_exact t u (check.TooDeep r) ((_, _, _, comes), _) lent sound page = met_exact r 3 (omega arith) (omega arith) comes
-  check_exact t u (check.Crowded r) ((_, _, _, comes), _) lent sound page = met_exact r 4 (omega arith) (omega arith) comes
-  check_exact t u (check.OutOfRounds b) (e, (_, _, _, comes), _) lent sound page = used_exact b e comes
-  check_exact t u check.NoPage (_, _, none, _) lent sound page = absurd (none page)
-  check_exact t u (check.BadFile p) (_, e, _) lent sound page = absurd (sound_not_bad f p sound e)
-  check_exact t u check.BadBudget (_, none, _) lent sound page = absurd (none (lent.1, lent.2))
-  check_exact t u check.ShortTable (short, _) lent sound page = absurd (omega (arith, lent.0, short))
+  check_exact t u (Ok p) ((_, _, _, comes), (rows, made, many, _)) lent sound page = passed_exact p.rounds p.images comes rows made many
+  check_exact t u (Err (check.Mismatch r)) ((_, _, _, comes), _) lent sound page = met_exact r 1 (omega arith) (omega arith) comes
+  check_exact t u (Err (check.Invalid r)) ((_, _, _, comes), _) lent sound page = met_exact r 2 (omega arith) (omega arith) comes
+  check_exact t u (Err (check.TooDeep r)) ((_, _, _, comes), _) lent sound page = met_exact r 3 (omega arith) (omega arith) comes
+  check_exact t u (Err (check.Crowded r)) ((_, _, _, comes), _) lent sound page = met_exact r 4 (omega arith) (omega arith) comes
+  check_exact t u (Err (check.OutOfRounds b)) (e, (_, _, _, comes), _) lent sound page = used_exact b e comes
+  check_exact t u (Err check.NoPage) (_, _, none, _) lent sound page = absurd (none page)
+  check_exact t u (Err (check.BadFile p)) (_, e, _) lent sound page = absurd (sound_not_bad f p sound e)
+  check_exact t u (Err check.BadBudget) (_, none, _) lent sound page = absurd (none (lent.1, lent.2))
+  check_exact t u (Err check.ShortTable) (short, _) lent sound page = absurd (omega (arith, lent.0, short))
 
 -- ---- another table that is long enough
 
@@ -77,13 +78,13 @@ module _ (f t u : List ℕ) (budget : ℕ) (room : table_long ≤ length t) (len
   decided_moved d (_, sound, page, comes) = (lent, sound, page, comes)
 
   pub check_moved : (t' : List ℕ) (r : CheckReply) → CheckSays f t budget r t' → (u' : List ℕ) × CheckSays f u budget r u'
-  check_moved t' (check.Passed r n) (d, (rows, made, many, _)) = (after_pass rows u, (decided_moved (passed r) d, (rows, made, many, refl)))
-  check_moved t' (check.Mismatch r) (d, _) = (zeroed u, (decided_moved (met r 1) d, refl))
-  check_moved t' (check.Invalid r) (d, _) = (zeroed u, (decided_moved (met r 2) d, refl))
-  check_moved t' (check.TooDeep r) (d, _) = (zeroed u, (decided_moved (met r 3) d, refl))
-  check_moved t' (check.Crowded r) (d, _) = (zeroed u, (decided_moved (met r 4) d, refl))
-  check_moved t' (check.OutOfRounds b) (e, d, _) = (zeroed u, (e, decided_moved used d, refl))
-  check_moved t' check.NoPage (_, sound, none, _) = (u, (lent, sound, none, refl))
-  check_moved t' (check.BadFile p) (_, e, _) = (u, (lent, e, refl))
-  check_moved t' check.BadBudget (_, none, _) = absurd (none (lent.1, lent.2))
-  check_moved t' check.ShortTable (short, _) = absurd (omega (arith, room, short))
+  check_moved t' (Ok p) (d, (rows, made, many, _)) = (after_pass rows u, (decided_moved (passed p.rounds) d, (rows, made, many, refl)))
+  check_moved t' (Err (check.Mismatch r)) (d, _) = (zeroed u, (decided_moved (met r 1) d, refl))
+  check_moved t' (Err (check.Invalid r)) (d, _) = (zeroed u, (decided_moved (met r 2) d, refl))
+  check_moved t' (Err (check.TooDeep r)) (d, _) = (zeroed u, (decided_moved (met r 3) d, refl))
+  check_moved t' (Err (check.Crowded r)) (d, _) = (zeroed u, (decided_moved (met r 4) d, refl))
+  check_moved t' (Err (check.OutOfRounds b)) (e, d, _) = (zeroed u, (e, decided_moved used d, refl))
+  check_moved t' (Err check.NoPage) (_, sound, none, _) = (u, (lent, sound, none, refl))
+  check_moved t' (Err (check.BadFile p)) (_, e, _) = (u, (lent, e, refl))
+  check_moved t' (Err check.BadBudget) (_, none, _) = absurd (none (lent.1, lent.2))
+  check_moved t' (Err check.ShortTable) (short, _) = absurd (omega (arith, room, short))

@@ -1,6 +1,7 @@
 -- Demand 1 (specs/First.antt) from the promises: an answer is given exactly where the reply that it names is promised
 -- (proofs/NumberLaws.antt, proofs/ReplyNumbers.antt), so each field is that promise in the demand's words. What a check leaves is in
 -- WorktableLaws, what a call leaves in a lent row in LentRowLaws. Assumes nothing.
+use Rattle.std.specs.Prelude.{Ok, Err}
 use mathlib.Core.Path.{◌≡◌, refl}
 use mathlib.Core.List.{List}
 use mathlib.Core.Logic.{◌↔◌, ⊎_elim}
@@ -15,17 +16,17 @@ use Rattle.summary.specs.Packing.{zeros}
 use Rattle.summary.specs.Fragments.{FragmentAnswers, FragmentSays}
 use Rattle.summary.specs.Joins.{JoinAnswers, JoinSays, DepthSays}
 use Rattle.summary.specs.Answers.{fragment_answer, fragment_number, join_answer, join_number, depth_answer, depth_number, net_depth}
-use Rattle.summary.specs.declared.FragmentAnswer.{FragmentAnswer}
-use Rattle.summary.specs.declared.FragmentReply.{FragmentReply}
-use Rattle.summary.specs.declared.JoinAnswer.{JoinAnswer}
-use Rattle.summary.specs.declared.JoinReply.{JoinReply}
-use Rattle.summary.specs.declared.DepthReply.{DepthReply}
-use Rattle.summary.specs.declared.DepthReply.TheVariants as depth
+use Rattle.summary.specs.Replies.{FragmentAnswer}
+use Rattle.summary.specs.Replies.{FragmentReply}
+use Rattle.summary.specs.Replies.{JoinAnswer}
+use Rattle.summary.specs.Replies.{JoinReply}
+use Rattle.summary.specs.Replies.{DepthReply}
+use Rattle.summary.specs.declared.DepthRefusal.TheVariants as depth
 use Rattle.page.specs.Pages.{PageSays, answer as page_answer, number as page_number}
-use Rattle.page.specs.declared.PageReply.{PageReply}
+use Rattle.page.specs.Pages.{PageReply}
 use Rattle.rounds.specs.Checks.{Lent, CheckSays}
 use Rattle.rounds.specs.Answers.{answer, number, images}
-use Rattle.rounds.specs.declared.CheckReply.{CheckReply}
+use Rattle.rounds.specs.Replies.{CheckReply}
 use Rattle.ujthanor.proofs.CallLaws.{fragment_made, join_made}
 use Rattle.demands.specs.First.{CheckOrder, PageOrder, FragmentOrder, JoinOrder, DepthOrder}
 use Rattle.demands.proofs.Sides.{in_words}
@@ -112,9 +113,9 @@ module _ (f : List ℕ) (left right : Summary) (r : JoinReply) (says : JoinSays 
 -- ---- net depths
 
 depthless : (r : DepthReply) → 1 ≤ depth_answer r → net_depth r ≡ pos 0
-depthless (depth.Net z) h = absurd (omega (arith, h))
-depthless (depth.BadFile p) h = refl
-depthless depth.NoSummary h = refl
+depthless (Ok z) h = absurd (omega (arith, h))
+depthless (Err (depth.BadFile p)) h = refl
+depthless (Err depth.NoSummary) h = refl
 
 module _ (f : List ℕ) (s : Summary) (r : DepthReply) (says : DepthSays f s r) where
   pub depth_order : DepthOrder f s (depth_answer r) (depth_number r) (net_depth r)

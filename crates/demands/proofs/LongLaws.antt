@@ -1,6 +1,7 @@
 -- Splitting (specs/Long.antt) from its promise. Each answer is given exactly where the reply that it names is promised (NumberLaws,
 -- ReplyNumbers). The written file stands in the output's first bytes. It has the strings of the long rules (long's `shortened_strings`) and
 -- their schema, list by list, so what demand 3 says of its pages (ThirdLaws) is said of theirs. Assumes nothing.
+use Rattle.std.specs.Prelude.{Ok, Err}
 use mathlib.Core.Path.{◌≡◌, refl, sym, ap, subst}
 use mathlib.Core.List.{List, ◌++◌}
 use mathlib.Core.Logic.{◌↔◌, ◌⊎◌, ⊎_elim}
@@ -18,11 +19,11 @@ use Rattle.schema.specs.Schemas.{schema_of}
 use Rattle.reader.specs.Reads.{Spelled}
 use Rattle.rounds.specs.Checks.{CheckSays}
 use Rattle.rounds.specs.Answers.{answer as check_answer}
-use Rattle.rounds.specs.declared.CheckReply.{CheckReply}
+use Rattle.rounds.specs.Replies.{CheckReply}
 use Rattle.long.specs.Rules.{long_symbols, PartsFit}
 use Rattle.long.specs.Splits.{long_rules, Shortens, SplitSays, answer, number}
-use Rattle.long.specs.declared.SplitReply.{SplitReply}
-use Rattle.long.specs.declared.SplitReply.TheVariants as split
+use Rattle.long.specs.Splits.{SplitReply}
+use Rattle.long.specs.declared.SplitRefusal.TheVariants as split
 use Rattle.long.proofs.SameLaws.{shortened_strings}
 use Rattle.demands.specs.Third.{Produces, ReadAsValid}
 use Rattle.demands.specs.Long.{SplitOrder, LongProduces, long_schema, SpeaksFor, SplitWritten}
@@ -47,22 +48,22 @@ module _ (F out out' : List ℕ) (n : ℕ) (e : n ≡ length F) (room : n ≤ le
 
 module _ (f out out' : List ℕ) where
   unchanged : (r : SplitReply) → SplitSays f out r out' → 1 ≤ answer r → out' ≡ out
-  unchanged (split.Written n) says h = absurd (omega (arith, h))
-  unchanged (split.BadFile p) (_, e) h = e
-  unchanged split.TooMany (_, _, e) h = e
-  unchanged split.Short (_, _, _, e) h = e
+  unchanged (Ok n) says h = absurd (omega (arith, h))
+  unchanged (Err (split.BadFile p)) (_, e) h = e
+  unchanged (Err split.TooMany) (_, _, e) h = e
+  unchanged (Err split.Short) (_, _, _, e) h = e
 
   behind_same : (r : SplitReply) → SplitSays f out r out' → answer r ≡ 0 → drop (number r) out' ≡ drop (number r) out
-  behind_same (split.Written n) (_, _, (F, _, e, room, made)) h = behind_is F out out' n e room made
-  behind_same (split.BadFile p) says h = absurd (omega (arith, h))
-  behind_same split.TooMany says h = absurd (omega (arith, h))
-  behind_same split.Short says h = absurd (omega (arith, h))
+  behind_same (Ok n) (_, _, (F, _, e, room, made)) h = behind_is F out out' n e room made
+  behind_same (Err (split.BadFile p)) says h = absurd (omega (arith, h))
+  behind_same (Err split.TooMany) says h = absurd (omega (arith, h))
+  behind_same (Err split.Short) says h = absurd (omega (arith, h))
 
   length_same : (r : SplitReply) → SplitSays f out r out' → length out' ≡ length out
-  length_same (split.Written n) (_, _, (F, _, e, room, made)) = whole_is F out out' n e room made
-  length_same (split.BadFile p) says = ap length (unchanged (split.BadFile p) says (omega arith))
-  length_same split.TooMany says = ap length (unchanged split.TooMany says (omega arith))
-  length_same split.Short says = ap length (unchanged split.Short says (omega arith))
+  length_same (Ok n) (_, _, (F, _, e, room, made)) = whole_is F out out' n e room made
+  length_same (Err (split.BadFile p)) says = ap length (unchanged (Err (split.BadFile p)) says (omega arith))
+  length_same (Err split.TooMany) says = ap length (unchanged (Err split.TooMany) says (omega arith))
+  length_same (Err split.Short) says = ap length (unchanged (Err split.Short) says (omega arith))
 
 -- ---- the answers
 
@@ -151,8 +152,8 @@ module _ (f F : List ℕ) (sound : SoundOf long_symbols f) (s : Shortens f F) wh
       }
 
 pub split_written : (f out out' : List ℕ) (r : SplitReply) → SplitSays f out r out' → answer r ≡ 0 → SplitWritten f (number r) out'
-split_written f out out' (split.Written n) (sound, _, (F, s, e, room, made)) h =
+split_written f out out' (Ok n) (sound, _, (F, s, e, room, made)) h =
     written_is f F sound s n out' (front_is F out out' n e room made) e
-split_written f out out' (split.BadFile p) says h = absurd (omega (arith, h))
-split_written f out out' split.TooMany says h = absurd (omega (arith, h))
-split_written f out out' split.Short says h = absurd (omega (arith, h))
+split_written f out out' (Err (split.BadFile p)) says h = absurd (omega (arith, h))
+split_written f out out' (Err split.TooMany) says h = absurd (omega (arith, h))
+split_written f out out' (Err split.Short) says h = absurd (omega (arith, h))

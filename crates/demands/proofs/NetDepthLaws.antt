@@ -2,6 +2,7 @@
 -- from -16 to 16. Of the summary of a word it is the word's start tags minus its end tags: the form has as many more starts than ends as
 -- the word has (proofs/NestLaws.antt), and the difference of two counts is that of any two counts as far apart. Where two summaries are
 -- joined all three are summaries under a sound file, so each depth is given, and the form's net depths add up. Assumes nothing.
+use Rattle.std.specs.Prelude.{Ok, Err}
 use mathlib.Core.Path.{◌≡◌, refl, sym, ap, ap₂, ◌∙◌, subst}
 use mathlib.Core.List.{List}
 use mathlib.Core.Logic.{◌⊎◌, inl, inr}
@@ -17,9 +18,9 @@ use Rattle.template.proofs.ShapeLaws.{sound_not_bad}
 use Rattle.schema.specs.Schemas.{binoid_of}
 use Rattle.form.specs.Held.{form_of}
 use Rattle.form.specs.declared.Summary.{Summary}
-use Rattle.summary.specs.declared.JoinReply.{JoinReply}
-use Rattle.summary.specs.declared.DepthReply.{DepthReply}
-use Rattle.summary.specs.declared.DepthReply.TheVariants as depth
+use Rattle.summary.specs.Replies.{JoinReply}
+use Rattle.summary.specs.Replies.{DepthReply}
+use Rattle.summary.specs.declared.DepthRefusal.TheVariants as depth
 use Rattle.summary.specs.Words.{SummaryOf}
 use Rattle.summary.specs.Joins.{SummaryUnder, BothSummaries, JoinAnswers, JoinSays, DepthSays}
 use Rattle.summary.specs.Answers.{join_answer, depth_answer, net_depth}
@@ -75,7 +76,7 @@ module _ (f : List ℕ) (s : Summary) where
   }
 
   pub depth_is : (r : DepthReply) → DepthSays f s r → Depth f s (depth_answer r) (net_depth r)
-  depth_is (depth.Net z) says = record {
+  depth_is (Ok z) says = record {
     difference = λ e. depth_counts f s z says;
     within =
         subst (Near most_tags) (sym (depth_counts f s z says))
@@ -85,14 +86,14 @@ module _ (f : List ℕ) (s : Summary) where
     none = λ e. depth_none f s z says;
     of_word = λ e w of_word. says.2 ∙ net_of_word w of_word;
   }
-  depth_is (depth.BadFile p) says = refused_depth 7 (omega arith)
-  depth_is depth.NoSummary says = refused_depth 15 (omega arith)
+  depth_is (Err (depth.BadFile p)) says = refused_depth 7 (omega arith)
+  depth_is (Err depth.NoSummary) says = refused_depth 15 (omega arith)
 
   -- of a summary under a sound file it is the form's
   depth_given : IsSound f → SummaryUnder f s → (r : DepthReply) → DepthSays f s r → net_depth r ≡ net (form_of s)
-  depth_given sound under (depth.Net z) says = says.2
-  depth_given sound under (depth.BadFile p) bad = absurd (sound_not_bad f p sound bad)
-  depth_given sound under depth.NoSummary (_, none) = absurd (none under)
+  depth_given sound under (Ok z) says = says.2
+  depth_given sound under (Err (depth.BadFile p)) bad = absurd (sound_not_bad f p sound bad)
+  depth_given sound under (Err depth.NoSummary) (_, none) = absurd (none under)
 
 -- ---- of a join
 

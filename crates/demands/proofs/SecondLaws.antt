@@ -1,6 +1,7 @@
 -- Demand 2 (specs/Second.antt) from the laws of the page and summary crates: a page's promise is met by "valid" exactly where the page is
 -- read and valid; a fragment is summarised exactly where nothing is refused, since a run that is readable throughout holds no refusal; a
 -- join of two words' summaries says what becomes of the two in a row. The numbers of the answers are taken apart by cases. Assumes nothing.
+use Rattle.std.specs.Prelude.{Ok, Err}
 use mathlib.Core.Path.{◌≡◌, refl, ap, ◌∙◌, subst}
 use mathlib.Core.List.{List}
 use mathlib.Core.Logic.{◌↔◌}
@@ -11,11 +12,11 @@ use Rattle.template.specs.Order.{IsSound}
 use Rattle.reader.specs.Reads.{AllReadable, Reason, refused}
 use Rattle.reader.proofs.ReadsLaws.{reads_finding, all_readable_unrefused}
 use Rattle.form.specs.declared.Summary.{Summary}
-use Rattle.summary.specs.declared.FragmentAnswer.{FragmentAnswer}
-use Rattle.summary.specs.declared.FragmentAnswer.TheVariants as fragment
-use Rattle.summary.specs.declared.FragmentReply.{FragmentReply}
-use Rattle.summary.specs.declared.JoinAnswer.{JoinAnswer}
-use Rattle.summary.specs.declared.JoinReply.{JoinReply}
+use Rattle.summary.specs.Replies.{FragmentAnswer}
+use Rattle.summary.specs.declared.FragmentRefusal.TheVariants as fragment
+use Rattle.summary.specs.Replies.{FragmentReply}
+use Rattle.summary.specs.Replies.{JoinAnswer}
+use Rattle.summary.specs.Replies.{JoinReply}
 use Rattle.schema.specs.Schemas.{binoid_of}
 use Rattle.summary.specs.Fragments.{ReadUnder, FragmentAnswers, FragmentSays}
 use Rattle.summary.specs.Joins.{JoinSays}
@@ -23,8 +24,8 @@ use Rattle.summary.specs.Answers.{fragment_answer, fragment_number, join_answer,
 use Rattle.schema.proofs.SchemaLaws.{laws_of}
 use Rattle.template.proofs.ShapeLaws.{sound_not_bad}
 use Rattle.summary.proofs.MeaningLaws.{fragment_summary_of, joined_iff, joined_summary_of, mismatch_iff, deep_iff}
-use Rattle.page.specs.declared.PageReply.{PageReply}
-use Rattle.page.specs.declared.PageReply.TheVariants as page
+use Rattle.page.specs.Pages.{PageReply}
+use Rattle.page.specs.declared.PageRefusal.TheVariants as page
 use Rattle.page.specs.Pages.{PageSays, answer, number}
 use Rattle.page.proofs.UniqueLaws.{page_valid}
 use Rattle.demands.proofs.ReplyNumbers.{page_named, page-named, fragment_named, fragment-named, join_named, join-named}
@@ -32,10 +33,10 @@ use Rattle.demands.specs.Second.{Unrefused, PageJudged, FragmentReduced, JoinRed
 
 -- ---- the numbers
 
-answer_valid : (p : PageReply) → answer p ≡ 0 → p ≡ page.Valid
+answer_valid : (p : PageReply) → answer p ≡ 0 → p ≡ Ok tt
 answer_valid p e = page-named p ∙ ap (λ (a : ℕ). page_named p a (number p)) e
 
-pub answer_summarised : (a : FragmentAnswer) → fragment_answer a ≡ 0 → a ≡ fragment.Summarised
+pub answer_summarised : (a : FragmentAnswer) → fragment_answer a ≡ 0 → a ≡ Ok tt
 answer_summarised a e = fragment-named a ∙ ap (λ (n : ℕ). fragment_named a n (fragment_number a)) e
 
 -- an answer of a join that has no place is known by its number
@@ -64,15 +65,15 @@ module _ (f bytes : List ℕ) where
       let (before, b, after, e, k, r, h) = reads_finding (name_count f) (binoid_of f) most_tags read in
       all_readable_unrefused (name_count f) (binoid_of f) most_tags (laws_of f sound) bytes before b after all e h
 
-  summarised_unrefused : (s : Summary) → FragmentAnswers f bytes fragment.Summarised s → Unrefused f bytes
+  summarised_unrefused : (s : Summary) → FragmentAnswers f bytes (Ok tt) s → Unrefused f bytes
   summarised_unrefused s (sound, (t, c, read, p)) = (sound, (reads_finding (name_count f) (binoid_of f) most_tags read).0)
 
   unrefused_summarised : (a : FragmentAnswer) (s : Summary) → FragmentAnswers f bytes a s → Unrefused f bytes → fragment_answer a ≡ 0
-  unrefused_summarised fragment.Summarised s says h = refl
-  unrefused_summarised (fragment.BadFile i) s (e, z) (sound, all) = absurd (sound_not_bad f i sound e)
-  unrefused_summarised (fragment.NotATag i) s (k, read, z) (sound, all) = absurd (readable_not_refused sound all _ i read)
-  unrefused_summarised (fragment.Mismatch i) s (k, read, z) (sound, all) = absurd (readable_not_refused sound all _ i read)
-  unrefused_summarised (fragment.TooDeep i) s (k, read, z) (sound, all) = absurd (readable_not_refused sound all _ i read)
+  unrefused_summarised (Ok tt) s says h = refl
+  unrefused_summarised (Err (fragment.BadFile i)) s (e, z) (sound, all) = absurd (sound_not_bad f i sound e)
+  unrefused_summarised (Err (fragment.NotATag i)) s (k, read, z) (sound, all) = absurd (readable_not_refused sound all _ i read)
+  unrefused_summarised (Err (fragment.Mismatch i)) s (k, read, z) (sound, all) = absurd (readable_not_refused sound all _ i read)
+  unrefused_summarised (Err (fragment.TooDeep i)) s (k, read, z) (sound, all) = absurd (readable_not_refused sound all _ i read)
 
   pub fragment_reduced : (r : FragmentReply) → FragmentSays f bytes r
       → FragmentReduced f bytes (fragment_answer r.answer) r.summary

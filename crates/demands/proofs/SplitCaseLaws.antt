@@ -17,7 +17,8 @@ use Rattle.template.specs.Order.{SoundOf, head_tests, contents_tests, bodies, te
 use Rattle.save.specs.Files.{Bytes, head_of, file_of}
 use Rattle.long.specs.Rules.{long_symbols, long_field, long_count, extras, PartsFit, rest_of, part, parts_of, all_parts}
 use Rattle.long.specs.Splits.{long_rules, all_extras, Shortens, SplitSays}
-use Rattle.long.specs.declared.SplitReply.TheVariants.{Written, Short}
+use Rattle.std.specs.Prelude.{Ok, Err}
+use Rattle.long.specs.declared.SplitRefusal.TheVariants.{Short}
 use Rattle.long.proofs.UniqueLaws.{split_unique}
 use Rattle.long.proofs.WrittenLaws.{written_file, written_shortens}
 use Rattle.demands.specs.Cases.{long_case, short_case, SplitCase}
@@ -67,10 +68,10 @@ pub split_case : SplitCase
 split_case out out' r says =
     record {
       written = λ room.
-          let made : SplitSays long_case out (Written 36) (short_case ++ drop 36 out) =
+          let made : SplitSays long_case out (Ok 36) (short_case ++ drop 36 out) =
           (sound, fits, (short_case, shortens, sym size_is, room, refl)) in
-          split_unique long_case out out' (short_case ++ drop 36 out) r (Written 36) says made;
+          split_unique long_case out out' (short_case ++ drop 36 out) r (Ok 36) says made;
       short = λ less.
-          let made : SplitSays long_case out Short out = (sound, fits, (short_case, shortens, omega (arith, size_is, less)), refl) in
-          split_unique long_case out out' out r Short says made;
+          let made : SplitSays long_case out (Err Short) out = (sound, fits, (short_case, shortens, omega (arith, size_is, less)), refl) in
+          split_unique long_case out out' out r (Err Short) says made;
     }

@@ -2,6 +2,7 @@
 -- valid (ValidReadLaws), and each row is that of a string's summary (RowMeaningLaws). A mismatch or an invalid page of a round is one of a
 -- string of the start (trees/proofs/VerdictLaws.antt). What the rounds answer is exact (ExactLaws), and a larger budget keeps it
 -- (rounds/proofs/BudgetLaws.antt). Replies of other numbers are ruled out one by one. Assumes nothing.
+use Rattle.std.specs.Prelude.{Ok, Err}
 use mathlib.Core.Path.{◌≡◌, refl, subst}
 use mathlib.Core.List.{List}
 use mathlib.Core.Logic.{◌⊎◌, inl, inr}
@@ -16,8 +17,9 @@ use Rattle.trees.proofs.VerdictLaws.{invalid_broken, mismatch_broken}
 use Rattle.worktable.specs.Packed.{most_images}
 use Rattle.rounds.specs.Checks.{RuleOf, CheckSays}
 use Rattle.rounds.specs.Answers.{answer, number, images}
-use Rattle.rounds.specs.declared.CheckReply.{CheckReply}
-use Rattle.rounds.specs.declared.CheckReply.TheVariants as check
+use Rattle.rounds.specs.Replies.{CheckReply}
+use Rattle.rounds.specs.declared.Passed.{Passed}
+use Rattle.rounds.specs.declared.CheckRefusal.TheVariants as check
 use Rattle.rounds.proofs.BudgetLaws.{check_larger, check_decided}
 use Rattle.rounds.proofs.UniqueLaws.{check_unique}
 use Rattle.demands.specs.Third.{PassMeans, BrokenMeans, Checked, LargerBudget}
@@ -28,58 +30,58 @@ use Rattle.demands.proofs.ExactLaws.{check_exact, check_moved}
 use Rattle.demands.proofs.RowMeaningLaws.{row_means}
 
 -- the reply of a pass is known by its number
-passed_is : (r : CheckReply) → answer r ≡ 0 → (i n : ℕ) × (r ≡ check.Passed i n)
-passed_is (check.Passed r n) e = (r, n, refl)
-passed_is (check.Mismatch r) e = absurd (omega (arith, e))
-passed_is (check.Invalid r) e = absurd (omega (arith, e))
-passed_is (check.TooDeep r) e = absurd (omega (arith, e))
-passed_is (check.Crowded r) e = absurd (omega (arith, e))
-passed_is (check.OutOfRounds b) e = absurd (omega (arith, e))
-passed_is check.NoPage e = absurd (omega (arith, e))
-passed_is (check.BadFile p) e = absurd (omega (arith, e))
-passed_is check.BadBudget e = absurd (omega (arith, e))
-passed_is check.ShortTable e = absurd (omega (arith, e))
+passed_is : (r : CheckReply) → answer r ≡ 0 → (p : Passed) × (r ≡ Ok p)
+passed_is (Ok p) e = (p, refl)
+passed_is (Err (check.Mismatch r)) e = absurd (omega (arith, e))
+passed_is (Err (check.Invalid r)) e = absurd (omega (arith, e))
+passed_is (Err (check.TooDeep r)) e = absurd (omega (arith, e))
+passed_is (Err (check.Crowded r)) e = absurd (omega (arith, e))
+passed_is (Err (check.OutOfRounds b)) e = absurd (omega (arith, e))
+passed_is (Err check.NoPage) e = absurd (omega (arith, e))
+passed_is (Err (check.BadFile p)) e = absurd (omega (arith, e))
+passed_is (Err check.BadBudget) e = absurd (omega (arith, e))
+passed_is (Err check.ShortTable) e = absurd (omega (arith, e))
 
 module _ (f t t' : List ℕ) (budget : ℕ) where
   -- ---- a pass
 
   -- the file is sound, and every page is as a pass says
-  passed_means : (r n : ℕ) → CheckSays f t budget (check.Passed r n) t' → IsSound f × PassMeans f
-  passed_means r n ((_, sound, _, decides), (rows, made, _, _)) = (
+  passed_means : (p : Passed) → CheckSays f t budget (Ok p) t' → IsSound f × PassMeans f
+  passed_means p ((_, sound, _, decides), (rows, made, _, _)) = (
     sound,
     λ w produced.
-        let valid = passed_valid f sound budget r decides rows made w produced in
+        let valid = passed_valid f sound budget p.rounds decides rows made w produced in
         (valid, tree_written f sound produced.1, valid_read f sound w valid),
   )
 
   pass_means : (r : CheckReply) → CheckSays f t budget r t' → answer r ≡ 0 → IsSound f × PassMeans f
   pass_means r says e =
-      let (i, n, is) = passed_is r e in passed_means i n (subst (λ r. CheckSays f t budget r t') is says)
+      let (p, is) = passed_is r e in passed_means p (subst (λ r. CheckSays f t budget r t') is says)
 
   -- ---- a break
 
-  mismatch_means : (r : ℕ) → CheckSays f t budget (check.Mismatch r) t' → BrokenMeans f
+  mismatch_means : (r : ℕ) → CheckSays f t budget (Err (check.Mismatch r)) t' → BrokenMeans f
   mismatch_means r ((_, sound, _, (_, _, _, event, _)), _) =
       let L = laws_of f sound in
       let (w, n, tree, invalid) = mismatch_broken (RuleOf f) (binoid_of f) (Valid (schema_of f)) most_tags most_images L (λ w v. v.0) event in
       (w, (n, tree), invalid)
 
-  invalid_means : (r : ℕ) → CheckSays f t budget (check.Invalid r) t' → BrokenMeans f
+  invalid_means : (r : ℕ) → CheckSays f t budget (Err (check.Invalid r)) t' → BrokenMeans f
   invalid_means r ((_, _, _, (_, _, _, event, _)), _) =
       let (w, n, tree, invalid) = invalid_broken (RuleOf f) (binoid_of f) (Valid (schema_of f)) most_tags most_images event in
       (w, (n, tree), invalid)
 
   broken_means : (r : CheckReply) → CheckSays f t budget r t' → (1 ≤ answer r) × (answer r ≤ 2) → BrokenMeans f
-  broken_means (check.Mismatch r) says h = mismatch_means r says
-  broken_means (check.Invalid r) says h = invalid_means r says
-  broken_means (check.Passed r n) says h = absurd (omega (arith, h))
-  broken_means (check.TooDeep r) says h = absurd (omega (arith, h))
-  broken_means (check.Crowded r) says h = absurd (omega (arith, h))
-  broken_means (check.OutOfRounds b) says h = absurd (omega (arith, h))
-  broken_means check.NoPage says h = absurd (omega (arith, h))
-  broken_means (check.BadFile p) says h = absurd (omega (arith, h))
-  broken_means check.BadBudget says h = absurd (omega (arith, h))
-  broken_means check.ShortTable says h = absurd (omega (arith, h))
+  broken_means (Err (check.Mismatch r)) says h = mismatch_means r says
+  broken_means (Err (check.Invalid r)) says h = invalid_means r says
+  broken_means (Ok p) says h = absurd (omega (arith, h))
+  broken_means (Err (check.TooDeep r)) says h = absurd (omega (arith, h))
+  broken_means (Err (check.Crowded r)) says h = absurd (omega (arith, h))
+  broken_means (Err (check.OutOfRounds b)) says h = absurd (omega (arith, h))
+  broken_means (Err check.NoPage) says h = absurd (omega (arith, h))
+  broken_means (Err (check.BadFile p)) says h = absurd (omega (arith, h))
+  broken_means (Err check.BadBudget) says h = absurd (omega (arith, h))
+  broken_means (Err check.ShortTable) says h = absurd (omega (arith, h))
 
 broken_range : {a : ℕ} → (a ≡ 1) ⊎ (a ≡ 2) → (1 ≤ a) × (a ≤ 2)
 broken_range (inl e) = (omega (arith, e), omega (arith, e))

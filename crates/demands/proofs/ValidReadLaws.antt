@@ -1,6 +1,7 @@
 -- A valid page as the page reader reads it (specs/Third.antt): 0, or 12 exactly where the page nests past 16. Its bytes spell it, so each
 -- is a tag; no beginning of a balanced word is mismatched; and a beginning with more than 16 tags left is one with more than 16 elements
 -- open (proofs/NestLaws.antt). At the end the word that was read is the page itself, which is valid. Assumes nothing.
+use Rattle.std.specs.Prelude.{Ok, Err}
 use mathlib.Core.Path.{◌≡◌, refl, sym, ap, ◌∙◌, subst}
 use mathlib.Core.List.{List, [], ◌∷◌, ◌++◌, append_assoc}
 use mathlib.Core.Logic.{◌↔◌, ◌⊎◌, inl, inr}
@@ -24,8 +25,8 @@ use Rattle.schema.proofs.SchemaLaws.{laws_of}
 use Rattle.template.proofs.ShapeLaws.{sound_not_bad}
 use Rattle.words.proofs.MismatchLaws.{balanced_not_mismatched}
 use Rattle.page.specs.Pages.{PageSays, answer as page_answer}
-use Rattle.page.specs.declared.PageReply.{PageReply}
-use Rattle.page.specs.declared.PageReply.TheVariants as page
+use Rattle.page.specs.Pages.{PageReply}
+use Rattle.page.specs.declared.PageRefusal.TheVariants as page
 use Rattle.demands.specs.Third.{NestsPast, ReadAsValid}
 use Rattle.demands.proofs.Sides.{both, neither}
 use Rattle.demands.proofs.NestLaws.{deep_nests, nests_deep}
@@ -91,11 +92,11 @@ valid_read f sound w valid bytes spelled = from
     same p = spelled_unique (name_count f) p spelled
 
     from : (r : PageReply) → PageSays f bytes r → Judged w (page_answer r)
-    from page.Valid (_, all, _) =
+    from (Ok tt) (_, all, _) =
         (inl refl, neither (λ e. omega (arith, e)) (readable_shallow f sound w valid.0 bytes spelled all))
-    from (page.BadFile i) e = absurd (sound_not_bad f i sound e)
-    from (page.NotATag i) (_, read) = absurd (always_tags f sound w valid.0 bytes spelled i read)
-    from (page.Mismatch i) (_, read) = absurd (never_mismatched f sound w valid.0 bytes spelled i read)
-    from (page.TooDeep i) (_, read) = (inr refl, both refl (deep_nested f sound w valid.0 bytes spelled i read))
-    from page.Unmatched (_, _, (z, p, none)) = absurd (none (subst Balanced (sym (same p)) valid.0))
-    from page.NotDerived (_, _, (z, p, (_, none))) = absurd (none (rw (same p) valid))
+    from (Err (page.BadFile i)) e = absurd (sound_not_bad f i sound e)
+    from (Err (page.NotATag i)) (_, read) = absurd (always_tags f sound w valid.0 bytes spelled i read)
+    from (Err (page.Mismatch i)) (_, read) = absurd (never_mismatched f sound w valid.0 bytes spelled i read)
+    from (Err (page.TooDeep i)) (_, read) = (inr refl, both refl (deep_nested f sound w valid.0 bytes spelled i read))
+    from (Err page.Unmatched) (_, _, (z, p, none)) = absurd (none (subst Balanced (sym (same p)) valid.0))
+    from (Err page.NotDerived) (_, _, (z, p, (_, none))) = absurd (none (rw (same p) valid))

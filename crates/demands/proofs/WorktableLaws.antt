@@ -1,6 +1,7 @@
 -- What a check leaves in the worktable (specs/First.antt): a refusal leaves it as it was; otherwise 5,376 entries, rows or zeros, stand
 -- before the table's own rest. Rows and the zeros behind them are 5,376 entries, since a pass has at most 256 rows of 21 entries. The
 -- number of entries is a variable where it can be, so that nothing counts to 5,376. Assumes nothing.
+use Rattle.std.specs.Prelude.{Ok, Err}
 use mathlib.Core.Path.{◌≡◌, sym, ap, ◌∙◌}
 use mathlib.Core.List.{List, ◌++◌, append_assoc}
 use Prim.Native.Nat.{ℕ, ◌*◌, ◌-◌, ◌≤◌}
@@ -13,8 +14,8 @@ use Rattle.rows.proofs.TableLaws.{Wide, flat_length}
 use Rattle.worktable.specs.Packed.{row_width, most_images, table_long}
 use Rattle.rounds.specs.Checks.{Rows, after_pass, zeroed, Decided, CheckSays}
 use Rattle.rounds.specs.Answers.{answer, number, images}
-use Rattle.rounds.specs.declared.CheckReply.{CheckReply}
-use Rattle.rounds.specs.declared.CheckReply.TheVariants as check
+use Rattle.rounds.specs.Replies.{CheckReply}
+use Rattle.rounds.specs.declared.CheckRefusal.TheVariants as check
 use Rattle.demands.specs.First.{Worktable}
 use Rattle.demands.proofs.RowCountLaws.{rows_few, rows_are_wide}
 
@@ -75,13 +76,13 @@ module _ (f t u : List ℕ) (budget : ℕ) where
       }
 
   pub worktable : (r : CheckReply) → CheckSays f t budget r u → Worktable f t (answer r) (number r) (images r) u
-  worktable (check.Passed r n) (decided, (rows, made, count, e)) = passed_worktable r n decided rows made count e
-  worktable (check.Mismatch r) (((room, _, _), _, _, _), e) = ended_worktable f t u 1 r 0 (omega arith) (omega arith) room e
-  worktable (check.Invalid r) (((room, _, _), _, _, _), e) = ended_worktable f t u 2 r 0 (omega arith) (omega arith) room e
-  worktable (check.TooDeep r) (((room, _, _), _, _, _), e) = ended_worktable f t u 3 r 0 (omega arith) (omega arith) room e
-  worktable (check.Crowded r) (((room, _, _), _, _, _), e) = ended_worktable f t u 4 r 0 (omega arith) (omega arith) room e
-  worktable (check.OutOfRounds b) (_, ((room, _, _), _, _, _), e) = ended_worktable f t u 5 b 0 (omega arith) (omega arith) room e
-  worktable check.NoPage (_, _, _, e) = refused_worktable f t u 6 0 0 (omega arith) e
-  worktable (check.BadFile p) (_, _, e) = refused_worktable f t u 7 p 0 (omega arith) e
-  worktable check.BadBudget (_, _, e) = refused_worktable f t u 8 0 0 (omega arith) e
-  worktable check.ShortTable (_, e) = refused_worktable f t u 9 0 0 (omega arith) e
+  worktable (Ok p) (decided, (rows, made, count, e)) = passed_worktable p.rounds p.images decided rows made count e
+  worktable (Err (check.Mismatch r)) (((room, _, _), _, _, _), e) = ended_worktable f t u 1 r 0 (omega arith) (omega arith) room e
+  worktable (Err (check.Invalid r)) (((room, _, _), _, _, _), e) = ended_worktable f t u 2 r 0 (omega arith) (omega arith) room e
+  worktable (Err (check.TooDeep r)) (((room, _, _), _, _, _), e) = ended_worktable f t u 3 r 0 (omega arith) (omega arith) room e
+  worktable (Err (check.Crowded r)) (((room, _, _), _, _, _), e) = ended_worktable f t u 4 r 0 (omega arith) (omega arith) room e
+  worktable (Err (check.OutOfRounds b)) (_, ((room, _, _), _, _, _), e) = ended_worktable f t u 5 b 0 (omega arith) (omega arith) room e
+  worktable (Err check.NoPage) (_, _, _, e) = refused_worktable f t u 6 0 0 (omega arith) e
+  worktable (Err (check.BadFile p)) (_, _, e) = refused_worktable f t u 7 p 0 (omega arith) e
+  worktable (Err check.BadBudget) (_, _, e) = refused_worktable f t u 8 0 0 (omega arith) e
+  worktable (Err check.ShortTable) (_, e) = refused_worktable f t u 9 0 0 (omega arith) e

@@ -6,8 +6,8 @@ use Rattle.form.specs.declared.Summary.{Summary}
 use Rattle.summary.specs.Packing.{zeros}
 use Rattle.summary.specs.Joins.{JoinSays, DepthSays}
 use Rattle.summary.specs.Answers.{join_answer, net_depth}
-use Rattle.summary.specs.declared.JoinReply.{JoinReply}
-use Rattle.summary.specs.declared.DepthReply.{DepthReply}
+use Rattle.summary.specs.Replies.{JoinReply}
+use Rattle.summary.specs.Replies.{DepthReply}
 use Rattle.worktable.specs.Packed.{row_width}
 use Rattle.long.specs.Splits.{Shortens}
 use Rattle.ujthanor.specs.LentRows.{written, StandsFor}

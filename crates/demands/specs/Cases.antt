@@ -1,6 +1,6 @@
 -- The cases of the rules that are proved: those of section 7 as one table, with the file K, the bytes, and what must come of them; and the
 -- file that section 13 splits.
-use Rattle.std.specs.Prelude.{◌≡◌, ℕ, suc, ◌*◌, ◌≤◌, ◌<◌, ℤ, pos, length, take, drop}
+use Rattle.std.specs.Prelude.{◌≡◌, ℕ, suc, ◌*◌, ◌≤◌, ◌<◌, ℤ, pos, length, take, drop, Ok, Err}
 use mathlib.Core.List.{List, [], ◌∷◌, ◌++◌, Memᴰ}
 use Rattle.summary.specs.Fragments.{FragmentSays}
 use Rattle.summary.specs.Joins.{JoinSays, DepthSays}
@@ -8,14 +8,10 @@ use Rattle.summary.specs.Answers.{fragment_answer, join_answer, join_number, dep
 use Rattle.pieces.specs.Pieces.{piece_long}
 use Rattle.form.specs.Held.{tag_count}
 use Rattle.form.specs.declared.Summary.{Summary}
-use Rattle.summary.specs.declared.FragmentReply.{FragmentReply}
-use Rattle.summary.specs.declared.JoinReply.{JoinReply}
-use Rattle.summary.specs.declared.DepthReply.{DepthReply}
-use Rattle.page.specs.Pages.{PageSays, answer, number}
-use Rattle.page.specs.declared.PageReply.{PageReply}
-use Rattle.long.specs.Splits.{SplitSays}
-use Rattle.long.specs.declared.SplitReply.{SplitReply}
-use Rattle.long.specs.declared.SplitReply.TheVariants.{Written, Short}
+use Rattle.summary.specs.Replies.{FragmentReply, JoinReply, DepthReply}
+use Rattle.page.specs.Pages.{PageReply, PageSays, answer, number}
+use Rattle.long.specs.Splits.{SplitReply, SplitSays}
+use Rattle.long.specs.declared.SplitRefusal.TheVariants.{Short}
 
 -- file K (Rules, section 11): its schema wants one b, not more and not less, among any number of a
 unfoldable pub K : List ℕ
@@ -94,8 +90,8 @@ short_case =
 
 -- every reply that is promised writes these 36 bytes, or finds the output too short for them
 pub record SplitHolds (out out' : List ℕ) (r : SplitReply) : Type 0 where
-  pub written : 36 ≤ length out → (r ≡ Written 36) × (out' ≡ short_case ++ drop 36 out)
-  pub short : length out < 36 → (r ≡ Short) × (out' ≡ out)
+  pub written : 36 ≤ length out → (r ≡ Ok 36) × (out' ≡ short_case ++ drop 36 out)
+  pub short : length out < 36 → (r ≡ Err Short) × (out' ≡ out)
 
 abbrev pub SplitCase : Type 0
 SplitCase = (out out' : List ℕ) (r : SplitReply) → SplitSays long_case out r out' → SplitHolds out out' r

@@ -11,7 +11,7 @@ use Rattle.reader.specs.Reads.{Spelled}
 use Rattle.trees.specs.Trees.{Tree}
 use Rattle.rounds.specs.Checks.{RuleOf, CheckSays}
 use Rattle.rounds.specs.Answers.{answer as check_answer}
-use Rattle.rounds.specs.declared.CheckReply.{CheckReply}
+use Rattle.rounds.specs.Replies.{CheckReply}
 use Rattle.long.specs.Rules.{long_symbols, LongGives, PartsFit}
 use Rattle.long.specs.Splits.{long_rules, Shortens}
 use Rattle.demands.specs.Third.{ReadAsValid}

@@ -18,11 +18,11 @@ use Rattle.form.specs.Held.{form_of, last_of}
 use Rattle.form.specs.declared.Summary.{Summary}
 use Rattle.summary.specs.Words.{SummaryOf}
 use Rattle.page.specs.Pages.{PageSays, answer as page_answer}
-use Rattle.page.specs.declared.PageReply.{PageReply}
+use Rattle.page.specs.Pages.{PageReply}
 use Rattle.worktable.specs.Packed.{most_images, packed}
 use Rattle.rounds.specs.Checks.{RuleOf, EventOf, NewOf, HasPage, Rows, Lent, most_rounds, CheckSays}
 use Rattle.rounds.specs.Answers.{answer}
-use Rattle.rounds.specs.declared.CheckReply.{CheckReply}
+use Rattle.rounds.specs.Replies.{CheckReply}
 use Rattle.demands.specs.Second.{opened, closed, Factored}
 
 -- ---- what a pass and a break mean

@@ -15,7 +15,7 @@ pub fn check(file: &[u8], table: &mut [u64], budget: usize) -> rounds::CheckRepl
     rounds::check(file, table, budget)
 }
 
-pub fn page(file: &[u8], bytes: &[u8]) -> page::PageReply
+pub fn page(file: &[u8], bytes: &[u8]) -> Result<(), page::PageRefusal>
     ensures { PageMeets file.now bytes.now (page.answer result) (page.number result) }
 {
     page::read(file, bytes)
@@ -33,13 +33,13 @@ pub fn join(file: &[u8], left: form::Summary, right: form::Summary) -> summary::
     summary::join(file, left, right)
 }
 
-pub fn net_depth(file: &[u8], s: form::Summary) -> summary::DepthReply
+pub fn net_depth(file: &[u8], s: form::Summary) -> Result<i32, summary::DepthRefusal>
     ensures { DepthMeets file.now s (depth_answer result) (depth_number result) (net_depth result) }
 {
     summary::net_depth(file, s)
 }
 
-pub fn split(file: &[u8], out: &mut [u8]) -> long::SplitReply
+pub fn split(file: &[u8], out: &mut [u8]) -> Result<usize, long::SplitRefusal>
     ensures { SplitMeets file.now out.old (long.answer result) (long.number result) out.new }
 {
     long::split(file, out)

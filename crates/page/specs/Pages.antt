@@ -23,7 +23,11 @@ abbrev pub ReadWhole : List ℕ → List ℕ → (List Tag → Type 0) → Type 
 ReadWhole f bytes P =
     IsSound f × AllReadable (name_count f) (binoid_of f) most_tags bytes × ((w : List Tag) × Spelled (name_count f) bytes w × P w)
 
-abbrev pub PageSays : List ℕ → List ℕ → Result Unit PageRefusal → Type 0
+-- valid, or why not
+abbrev pub PageReply : Type 0
+PageReply = Result Unit PageRefusal
+
+abbrev pub PageSays : List ℕ → List ℕ → PageReply → Type 0
 PageSays f bytes (Ok _) = ReadWhole f bytes (λ w. IsValid (schema_of f) w)
 PageSays f bytes (Err (BadFile p)) = reading f ≡ faulty p
 PageSays f bytes (Err (NotATag p)) = IsSound f × ReadUnder f bytes (refused no_tag p)
@@ -49,7 +53,7 @@ tested (Ok _) = Ok tt
 tested (Err e) = Err (flawed e)
 
 -- the reply in numbers (Rules, section 9)
-abbrev pub answer : Result Unit PageRefusal → ℕ
+abbrev pub answer : PageReply → ℕ
 answer (Ok _) = 0
 answer (Err (BadFile p)) = 7
 answer (Err (NotATag p)) = 10
@@ -58,7 +62,7 @@ answer (Err (TooDeep p)) = 12
 answer (Err Unmatched) = 13
 answer (Err NotDerived) = 14
 
-abbrev pub number : Result Unit PageRefusal → ℕ
+abbrev pub number : PageReply → ℕ
 number (Ok _) = 0
 number (Err (BadFile p)) = p
 number (Err (NotATag p)) = p

@@ -1,6 +1,7 @@
 -- The calls (specs/Calls.antt), on variables. Of those that write a row: a row that is too short, or a reply whose summary is written; every
 -- reply's summary has at most 16 tags, and that of a refusal is all zeros. Of the others: what is taken out of a reply that is answered 0,
 -- and what stands for it where the reply is another. Assumes nothing.
+use Rattle.std.specs.Prelude.{Ok, Err}
 use mathlib.Core.Path.{◌≡◌, refl, sym, ap, ◌∙◌}
 use mathlib.Core.List.{List}
 use Prim.Native.Nat.{ℕ, ◌≤◌, ◌<◌}
@@ -15,20 +16,21 @@ use Rattle.pieces.proofs.PieceLaws.{none_counted}
 use Rattle.form.specs.Held.{tag_count}
 use Rattle.form.specs.declared.Summary.{Summary}
 use Rattle.worktable.specs.Packed.{row_width}
-use Rattle.summary.specs.declared.FragmentAnswer.{FragmentAnswer}
-use Rattle.summary.specs.declared.FragmentAnswer.TheVariants as fragment
-use Rattle.summary.specs.declared.FragmentReply.{FragmentReply}
+use Rattle.summary.specs.Replies.{FragmentAnswer}
+use Rattle.summary.specs.declared.FragmentRefusal.TheVariants as fragment
+use Rattle.summary.specs.Replies.{FragmentReply}
 use Rattle.summary.proofs.DepthLaws.{no_depth}
-use Rattle.summary.specs.declared.DepthReply.{DepthReply}
-use Rattle.summary.specs.declared.DepthReply.TheVariants as depth
-use Rattle.rounds.specs.declared.CheckReply.{CheckReply}
-use Rattle.rounds.specs.declared.CheckReply.TheVariants as check
+use Rattle.summary.specs.Replies.{DepthReply}
+use Rattle.summary.specs.declared.DepthRefusal.TheVariants as depth
+use Rattle.rounds.specs.Replies.{CheckReply}
+use Rattle.rounds.specs.declared.Passed.{Passed}
+use Rattle.rounds.specs.declared.CheckRefusal.TheVariants as check
 use Rattle.rounds.specs.Checks.{CheckSays}
 use Rattle.rounds.specs.Answers.{answer, number, images}
 use Rattle.rounds.proofs.AnswerLaws.{no_images}
-use Rattle.summary.specs.declared.JoinAnswer.{JoinAnswer}
-use Rattle.summary.specs.declared.JoinAnswer.TheVariants as joined
-use Rattle.summary.specs.declared.JoinReply.{JoinReply}
+use Rattle.summary.specs.Replies.{JoinAnswer}
+use Rattle.summary.specs.declared.JoinRefusal.TheVariants as joined
+use Rattle.summary.specs.Replies.{JoinReply}
 use Rattle.summary.specs.Packing.{Packs, zeros}
 use Rattle.summary.specs.Fragments.{FragmentAnswers, FragmentSays}
 use Rattle.summary.specs.Joins.{JoinAnswers, JoinSays, DepthSays}
@@ -54,18 +56,18 @@ unfolding zeros
 refused_made a s low e = record { low = low; few = rw e (omega arith); counted = rw e (none_counted pieces_long); zero = λ _. e }
 
 answered_made : (f bytes : List ℕ) (a : FragmentAnswer) (s : Summary) → FragmentAnswers f bytes a s → Made (fragment_answer a) s
-answered_made f bytes fragment.Summarised s (_, (t, c, _, packs)) = packed_made s t c packs
-answered_made f bytes (fragment.BadFile p) s (_, e) = refused_made 7 s (omega arith) e
-answered_made f bytes (fragment.NotATag p) s (_, _, e) = refused_made 10 s (omega arith) e
-answered_made f bytes (fragment.Mismatch p) s (_, _, e) = refused_made 11 s (omega arith) e
-answered_made f bytes (fragment.TooDeep p) s (_, _, e) = refused_made 12 s (omega arith) e
+answered_made f bytes (Ok tt) s (_, (t, c, _, packs)) = packed_made s t c packs
+answered_made f bytes (Err (fragment.BadFile p)) s (_, e) = refused_made 7 s (omega arith) e
+answered_made f bytes (Err (fragment.NotATag p)) s (_, _, e) = refused_made 10 s (omega arith) e
+answered_made f bytes (Err (fragment.Mismatch p)) s (_, _, e) = refused_made 11 s (omega arith) e
+answered_made f bytes (Err (fragment.TooDeep p)) s (_, _, e) = refused_made 12 s (omega arith) e
 
 joined_made : (f : List ℕ) (left right : Summary) (a : JoinAnswer) (s : Summary) → JoinAnswers f left right a s → Made (join_answer a) s
-joined_made f left right joined.Joined s (_, (t, c, _, _, packs)) = packed_made s t c packs
-joined_made f left right (joined.BadFile p) s (_, e) = refused_made 7 s (omega arith) e
-joined_made f left right joined.NoSummary s (_, _, e) = refused_made 15 s (omega arith) e
-joined_made f left right joined.Mismatch s (_, _, e) = refused_made 11 s (omega arith) e
-joined_made f left right joined.TooDeep s (_, _, e) = refused_made 12 s (omega arith) e
+joined_made f left right (Ok tt) s (_, (t, c, _, _, packs)) = packed_made s t c packs
+joined_made f left right (Err (joined.BadFile p)) s (_, e) = refused_made 7 s (omega arith) e
+joined_made f left right (Err joined.NoSummary) s (_, _, e) = refused_made 15 s (omega arith) e
+joined_made f left right (Err joined.Mismatch) s (_, _, e) = refused_made 11 s (omega arith) e
+joined_made f left right (Err joined.TooDeep) s (_, _, e) = refused_made 12 s (omega arith) e
 
 pub fragment_made : (f bytes : List ℕ) (r : FragmentReply) → FragmentSays f bytes r → Made (fragment_answer r.answer) r.summary
 fragment_made f bytes r says = answered_made f bytes r.answer r.summary says
@@ -85,20 +87,20 @@ join_few f left right r says = let made = join_made f left right r says in (made
 -- ---- a reply that is not answered 0: its summary is all zeros
 
 fragment_zeros : (f bytes : List ℕ) (a : FragmentAnswer) (s : Summary) → FragmentAnswers f bytes a s
-    → (a ≡ fragment.Summarised → ⊥) → zeros ≡ s
-fragment_zeros f bytes fragment.Summarised s says k = absurd (k refl)
-fragment_zeros f bytes (fragment.BadFile p) s (_, e) k = sym e
-fragment_zeros f bytes (fragment.NotATag p) s (_, _, e) k = sym e
-fragment_zeros f bytes (fragment.Mismatch p) s (_, _, e) k = sym e
-fragment_zeros f bytes (fragment.TooDeep p) s (_, _, e) k = sym e
+    → (a ≡ Ok tt → ⊥) → zeros ≡ s
+fragment_zeros f bytes (Ok tt) s says k = absurd (k refl)
+fragment_zeros f bytes (Err (fragment.BadFile p)) s (_, e) k = sym e
+fragment_zeros f bytes (Err (fragment.NotATag p)) s (_, _, e) k = sym e
+fragment_zeros f bytes (Err (fragment.Mismatch p)) s (_, _, e) k = sym e
+fragment_zeros f bytes (Err (fragment.TooDeep p)) s (_, _, e) k = sym e
 
 join_zeros : (f : List ℕ) (left right : Summary) (a : JoinAnswer) (s : Summary) → JoinAnswers f left right a s
-    → (a ≡ joined.Joined → ⊥) → zeros ≡ s
-join_zeros f left right joined.Joined s says k = absurd (k refl)
-join_zeros f left right (joined.BadFile p) s (_, e) k = sym e
-join_zeros f left right joined.NoSummary s (_, _, e) k = sym e
-join_zeros f left right joined.Mismatch s (_, _, e) k = sym e
-join_zeros f left right joined.TooDeep s (_, _, e) k = sym e
+    → (a ≡ Ok tt → ⊥) → zeros ≡ s
+join_zeros f left right (Ok tt) s says k = absurd (k refl)
+join_zeros f left right (Err (joined.BadFile p)) s (_, e) k = sym e
+join_zeros f left right (Err joined.NoSummary) s (_, _, e) k = sym e
+join_zeros f left right (Err joined.Mismatch) s (_, _, e) k = sym e
+join_zeros f left right (Err joined.TooDeep) s (_, _, e) k = sym e
 
 -- ---- a fragment
 
@@ -119,7 +121,7 @@ module _ (f bytes row : List ℕ) (a n : ℕ) (row' : List ℕ) where
       }
 
   pub fragment_refused : (r : FragmentReply) → row_width ≤ length row → FragmentSays f bytes r → a ≡ fragment_answer r.answer
-      → n ≡ fragment_number r.answer → (r.answer ≡ fragment.Summarised → ⊥) → row' ≡ written row zeros
+      → n ≡ fragment_number r.answer → (r.answer ≡ Ok tt → ⊥) → row' ≡ written row zeros
       → FragmentCalled f bytes row a n row'
   fragment_refused r long says e d k w =
       fragment_written r long says e d (w ∙ ap (written row) (fragment_zeros f bytes r.answer r.summary says k))
@@ -155,7 +157,7 @@ module _ (f left right row : List ℕ) (a n : ℕ) (row' : List ℕ) where
       }
 
   pub join-refused : (l m : Summary) (r : JoinReply) → row_width ≤ length row → StandsFor left l → StandsFor right m → JoinSays f l m r
-      → a ≡ join_answer r.answer → n ≡ join_number r.answer → (r.answer ≡ joined.Joined → ⊥)
+      → a ≡ join_answer r.answer → n ≡ join_number r.answer → (r.answer ≡ Ok tt → ⊥)
       → row' ≡ written row zeros → JoinCalled f left right row a n row'
   join-refused l m r long first second says e d k w =
       join_written l m r long first second says e d (w ∙ ap (written row) (join_zeros f l m r.answer r.summary says k))
@@ -163,8 +165,8 @@ module _ (f left right row : List ℕ) (a n : ℕ) (row' : List ℕ) where
 -- ---- a check
 
 module _ (f t : List ℕ) (budget a n m : ℕ) (t' : List ℕ) (r : CheckReply) (says : CheckSays f t budget r t') where
-  pub check_passed : (round found : ℕ) → r ≡ check.Passed round found → a ≡ 0 → n ≡ round → m ≡ found → CheckCalled f t budget a n m t'
-  check_passed round found p e d i =
+  pub check_passed : (p : Passed) → r ≡ Ok p → a ≡ 0 → n ≡ p.rounds → m ≡ p.images → CheckCalled f t budget a n m t'
+  check_passed passed p e d i =
       record {
         reply = r;
         says = says;
@@ -173,7 +175,7 @@ module _ (f t : List ℕ) (budget a n m : ℕ) (t' : List ℕ) (r : CheckReply) 
         images_are = i ∙ ap (λ (r : CheckReply). images r) (sym p);
       }
 
-  pub check_other : ((round found : ℕ) → r ≡ check.Passed round found → ⊥) → a ≡ answer r → n ≡ number r → m ≡ 0 → CheckCalled f t budget a n m t'
+  pub check_other : ((p : Passed) → r ≡ Ok p → ⊥) → a ≡ answer r → n ≡ number r → m ≡ 0 → CheckCalled f t budget a n m t'
   check_other k e d i =
       record { reply = r; says = says; answer_is = e; number_is = d; images_are = i ∙ no_images r k }
 
@@ -184,11 +186,11 @@ module _ (f row : List ℕ) (a n : ℕ) (z : ℤ) (s : Summary) (stands : Stands
   depth_called : a ≡ depth_answer r → z ≡ net_depth r → DepthCalled f row a n z
   depth_called e i = record { lent = s; reply = r; row_lent = stands; says = says; answer_is = e; number_is = d; depth_is = i }
 
-  pub depth_measured : (y : ℤ) → r ≡ depth.Net y → a ≡ 0 → z ≡ y → DepthCalled f row a n z
+  pub depth_measured : (y : ℤ) → r ≡ Ok y → a ≡ 0 → z ≡ y → DepthCalled f row a n z
   depth_measured y p e i =
       depth_called (e ∙ ap (λ (r : DepthReply). depth_answer r) (sym p)) (i ∙ ap (λ (r : DepthReply). net_depth r) (sym p))
 
-  pub depth_refused : ((z : ℤ) → r ≡ depth.Net z → ⊥) → a ≡ depth_answer r → z ≡ pos 0 → DepthCalled f row a n z
+  pub depth_refused : ((z : ℤ) → r ≡ Ok z → ⊥) → a ≡ depth_answer r → z ≡ pos 0 → DepthCalled f row a n z
   depth_refused k e i = depth_called e (i ∙ no_depth r k)
 
 pub ruleset calls = (

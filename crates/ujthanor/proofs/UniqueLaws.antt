@@ -9,19 +9,19 @@ use lib.IntN.{ℤ}
 use lib.ListN.{length}
 use Rattle.form.specs.declared.Summary.{Summary}
 use Rattle.worktable.specs.Packed.{row_width, nonterminal_in, above_in, summary_in}
-use Rattle.summary.specs.declared.FragmentReply.{FragmentReply}
-use Rattle.summary.specs.declared.JoinReply.{JoinReply}
-use Rattle.summary.specs.declared.DepthReply.{DepthReply}
+use Rattle.summary.specs.Replies.{FragmentReply}
+use Rattle.summary.specs.Replies.{JoinReply}
+use Rattle.summary.specs.Replies.{DepthReply}
 use Rattle.summary.specs.Joins.{JoinSays, DepthSays}
 use Rattle.summary.specs.Answers.{fragment_answer, fragment_number, join_answer, join_number, depth_answer, depth_number, net_depth}
 use Rattle.summary.proofs.UniqueLaws.{fragment_unique, join_unique, depth_unique}
-use Rattle.page.specs.declared.PageReply.{PageReply}
+use Rattle.page.specs.Pages.{PageReply}
 use Rattle.page.specs.Pages.{answer as page_answer, number as page_number}
 use Rattle.page.proofs.UniqueLaws.{page_unique}
-use Rattle.rounds.specs.declared.CheckReply.{CheckReply}
+use Rattle.rounds.specs.Replies.{CheckReply}
 use Rattle.rounds.specs.Answers.{answer, number, images}
 use Rattle.rounds.proofs.UniqueLaws.{check_unique}
-use Rattle.long.specs.declared.SplitReply.{SplitReply}
+use Rattle.long.specs.Splits.{SplitReply}
 use Rattle.long.specs.Splits.{answer as split_answer, number as split_number}
 use Rattle.long.proofs.UniqueLaws.{split_unique}
 use Rattle.ujthanor.specs.LentRows.{written, IsRow, no_summary, StandsFor}

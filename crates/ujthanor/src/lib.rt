@@ -25,13 +25,13 @@ pub fn ujthanor_check(
     ensures { CheckCalled file.now table.old budget result number.new images.new table.new }
 {
     let r = rounds::check(file, table, budget);
-    let rounds::CheckReply::Passed(round, found) = r else {
+    let Ok(passed) = r else {
         *number = rounds::number(r);
         *images = 0;
         return rounds::answer(r);
     };
-    *number = round as u64;
-    *images = found as u64;
+    *number = passed.rounds as u64;
+    *images = passed.images as u64;
     rounds::answer(r)
 }
 
@@ -76,7 +76,7 @@ pub fn ujthanor_fragment(file: &[u8], bytes: &[u8], row: &mut [u64], number: &mu
     let r = summary::fragment(file, bytes);
     let a = r.answer;
     *number = summary::fragment_number(a);
-    let summary::FragmentAnswer::Summarised = a else {
+    let Ok(()) = a else {
         put_zeros(row);
         return summary::fragment_answer(a);
     };
@@ -137,7 +137,7 @@ pub fn ujthanor_join(
     let j = summary::join(file, first, second);
     let a = j.answer;
     *number = summary::join_number(a);
-    let summary::JoinAnswer::Joined = a else {
+    let Ok(()) = a else {
         put_zeros(row);
         return summary::join_answer(a);
     };
@@ -152,7 +152,7 @@ pub fn ujthanor_net_depth(file: &[u8], row: &[u64], number: &mut u64, depth: &mu
     let s = lent(row);
     let d = summary::net_depth(file, s);
     *number = summary::depth_number(d);
-    let summary::DepthReply::Net(z) = d else {
+    let Ok(z) = d else {
         *depth = 0;
         return summary::depth_answer(d);
     };
