@@ -9,4 +9,3 @@ pub mod EndLaws
 pub mod PartLaws
 pub mod BudgetLaws
 pub mod UniqueLaws
-pub mod AnswerLaws
