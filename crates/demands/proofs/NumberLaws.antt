@@ -9,7 +9,7 @@ use lib.ListN.{length, get_or}
 use Rattle.entries.specs.Entries.{rule_symbols}
 use Rattle.template.specs.Order.{SoundOf, reading_of, reading, answer, number}
 use Rattle.template.specs.Order.{Reading}
-use Rattle.std.specs.Prelude.{Ok}
+use Rattle.std.specs.Prelude.{Ok, Err}
 use Rattle.template.specs.Order.{faulty}
 use Rattle.template.proofs.SoundLaws.{reading_sound_of}
 use Rattle.template.proofs.ShapeLaws.{sound_not_bad_of}
@@ -58,7 +58,7 @@ module _ (symbols : ℕ) (f : List ℕ) where
     where
       by : (r : Reading) → reading_of symbols f ≡ r → (p : ℕ) × (reading_of symbols f ≡ faulty p)
       by (Ok s) e = absurd (none (reading_sound_of symbols f s e).0)
-      by (faulty p) e = (p, e)
+      by (Err x) e = (x.place, e)
 
   -- 7 is given with the place where the file is bad, and only where nothing before it is due
   module _ (Due : Type 0) (a n : ℕ) (given : (p : ℕ) → ((a ≡ 7) × (n ≡ p)) ↔ (Due × (reading_of symbols f ≡ faulty p))) where

@@ -21,18 +21,16 @@ use Rattle.reader.proofs.ReadsLaws.{reads_finding, readable_whole}
 use Rattle.form.specs.declared.Summary.{Summary}
 use Rattle.form.specs.Held.{tag_count, form_of, last_of}
 use Rattle.summary.specs.declared.FragmentRefusal.TheVariants as fragment
-use Rattle.summary.specs.Replies.{FragmentReply}
+use Rattle.summary.specs.Replies.{FragmentReply, JoinReply}
 use Rattle.summary.specs.declared.JoinRefusal.TheVariants as joined
-use Rattle.summary.specs.Replies.{JoinReply}
 use Rattle.summary.specs.Packing.{zeros}
 use Rattle.schema.specs.Schemas.{binoid_of}
 use Rattle.summary.specs.Fragments.{ReadUnder, FragmentSays}
 use Rattle.summary.specs.Joins.{SummaryUnder, outcome_of, JoinSays}
 use Rattle.summary.proofs.PlaceLaws.{summary_good}
 use Rattle.schema.proofs.SchemaLaws.{laws_of, ended_of, ended_means}
-use Rattle.page.specs.Pages.{PageReply}
+use Rattle.page.specs.Pages.{PageReply, PageSays, tested}
 use Rattle.page.specs.declared.PageRefusal.TheVariants as page
-use Rattle.page.specs.Pages.{PageSays, reply_of}
 use Rattle.page.proofs.PageLaws.{end_page}
 use Rattle.demands.proofs.Findings.{find, find_reads}
 use Rattle.demands.proofs.Packings.{pack_of, pack_packs}
@@ -40,21 +38,21 @@ use Rattle.demands.proofs.Packings.{pack_of, pack_packs}
 -- ---- from what was found
 
 abbrev pub fragment_reply : Found Piece → FragmentReply
-fragment_reply (whole t c) = record { answer = (Ok tt); summary = pack_of t c }
+fragment_reply (whole t c) = record { answer = Ok tt; summary = pack_of t c }
 fragment_reply (refused no_tag i) = record { answer = Err (fragment.NotATag i); summary = zeros }
 fragment_reply (refused mismatch i) = record { answer = Err (fragment.Mismatch i); summary = zeros }
 fragment_reply (refused too_many i) = record { answer = Err (fragment.TooDeep i); summary = zeros }
 
 abbrev pub page_reply : List ℕ → Found Piece → PageReply
-page_reply f (whole t c) = reply_of (ended_of f t c)
+page_reply f (whole t c) = tested (ended_of f t c)
 page_reply f (refused no_tag i) = Err (page.NotATag i)
 page_reply f (refused mismatch i) = Err (page.Mismatch i)
 page_reply f (refused too_many i) = Err (page.TooDeep i)
 
 abbrev pub join_reply : Limited Piece → JoinReply
-join_reply (fits t c) = record { answer = (Ok tt); summary = pack_of t c }
-join_reply (differs a b) = record { answer = (Err joined.Mismatch); summary = zeros }
-join_reply too_deep = record { answer = (Err joined.TooDeep); summary = zeros }
+join_reply (fits t c) = record { answer = Ok tt; summary = pack_of t c }
+join_reply (differs a b) = record { answer = Err joined.Mismatch; summary = zeros }
+join_reply too_deep = record { answer = Err joined.TooDeep; summary = zeros }
 
 -- ---- the replies under a file
 

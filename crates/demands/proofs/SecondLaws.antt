@@ -25,7 +25,6 @@ use Rattle.schema.proofs.SchemaLaws.{laws_of}
 use Rattle.template.proofs.ShapeLaws.{sound_not_bad}
 use Rattle.summary.proofs.MeaningLaws.{fragment_summary_of, joined_iff, joined_summary_of, mismatch_iff, deep_iff}
 use Rattle.page.specs.Pages.{PageReply}
-use Rattle.page.specs.declared.PageRefusal.TheVariants as page
 use Rattle.page.specs.Pages.{PageSays, answer, number}
 use Rattle.page.proofs.UniqueLaws.{page_valid}
 use Rattle.demands.proofs.ReplyNumbers.{page_named, page-named, fragment_named, fragment-named, join_named, join-named}
