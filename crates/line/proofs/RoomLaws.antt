@@ -16,7 +16,7 @@ use Rattle.hedge.specs.Schema.{most_states}
 use Rattle.entries.specs.declared.Test.{Test}
 use Rattle.entries.specs.Tests.{test, first_fault, or_then}
 use Rattle.entries.specs.Entries.{byte_at, rule_symbols}
-use Rattle.std.specs.Prelude.{Result, Ok, Err}
+use Rattle.std.specs.Prelude.{Ok, Err}
 use Rattle.entries.specs.Tests.{Tested, fault_at}
 use Rattle.template.specs.Layout.{most_rules, most_schema_rules, longest_file, half_at, states, rule_count, schema_count, ending_count, schema_start}
 use Rattle.template.specs.Layout.{ending_start, bodies_end}

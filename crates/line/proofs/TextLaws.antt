@@ -1,6 +1,6 @@
 -- What std prints of a number is the number in decimal (specs/Decimal.antt): by one digit more at a time. A line has at most `longest_line`
 -- bytes. Assumes nothing.
-use Rattle.std.proofs.Common.{◌≡◌, refl, sym, ap, ◌∙◌, ℕ, ◌+◌, ◌/◌, ◌%◌, ◌≤◌, ◌<◌, ◌^◌, List, [], ◌∷◌, ◌++◌, arith}
+use Rattle.std.proofs.Common.{◌≡◌, sym, ℕ, ◌<◌, ◌^◌}
 use Rattle.std.specs.Fmt as std
 use Rattle.std.proofs.lemmas.Fmt.{decimal_by_steps}
 use Rattle.line.specs.Decimal.{decimal}
