@@ -11,7 +11,7 @@ use lib.Dec.{leb, eqb}
 use lib.ListN.{length, take}
 use lib.Seq.{get_or-take, length-take-le, take_all}
 use borrow.Author.Tests.{leb-true, le-leb, ne_eqb}
-use Rattle.numbers.proofs.TestLaws.{and_out}
+use Rattle.std.proofs.lemmas.Bool.{and_parts}
 use Rattle.hedge.specs.Schema.{most_states}
 use Rattle.entries.specs.declared.Test.{Test}
 use Rattle.entries.specs.Tests.{test, first_fault, or_then}
@@ -49,7 +49,7 @@ unfolding head_tests start_tests
 end_before f head start =
     let h = ok_holds (head_tests f) head in
     let k = ok_holds (start_tests f) start in
-    let q = leb-true (states f) most_states (and_out (leb 1 (states f)) h.1.1.1.0).1 in
+    let q = leb-true (states f) most_states (and_parts (leb 1 (states f)) _ h.1.1.1.0).1 in
     let rules = leb-true (rule_count f) most_rules k.1.0 in
     let schema = leb-true (schema_count f) most_schema_rules k.1.1.1.0 in
     let ends = leb-true (ending_count f) (states f) k.1.1.1.1.1.0 in

@@ -9,7 +9,7 @@ use native.Mathlib.Nat.{add-zero}
 use native.Mathlib.Omega.{arith}
 use lib.Dec.{ltb, leb}
 use borrow.Author.Tests.{ltb-true, lt-ltb}
-use Rattle.numbers.proofs.TestLaws.{and_out, or_out}
+use Rattle.std.proofs.lemmas.Bool.{and_parts, or_cases}
 use Rattle.entries.specs.Entries.{byte_at, rule_width, is_symbol, symbol_holds}
 use Rattle.template.specs.Layout.{name_count, nonterminals, rule_count, template_rules_of}
 use Rattle.template.specs.Order.{SoundOf}
@@ -21,9 +21,9 @@ use Rattle.long.specs.Rules.{long_symbols, long_field, long_count, LongRulesBelo
 pub symbol_byte : (A N b : ℕ) → A ≤ 32 → is_symbol A N b ≡ true → b < 64 + N
 symbol_byte A N b h e =
     ⊎_elim (λ k. omega (arith, ltb-true b A k))
-    (λ k. ⊎_elim (λ p. omega (arith, ltb-true b (32 + A) (and_out (leb 32 b) p).1)) (λ p. ltb-true b (64 + N) (and_out (leb 64 b) p).1)
-    (or_out (leb 32 b && ltb b (32 + A)) k))
-    (or_out (ltb b A) e)
+    (λ k. ⊎_elim (λ p. omega (arith, ltb-true b (32 + A) (and_parts (leb 32 b) _ p).1)) (λ p. ltb-true b (64 + N) (and_parts (leb 64 b) _ p).1)
+    (or_cases (leb 32 b && ltb b (32 + A)) _ k))
+    (or_cases (ltb b A) _ e)
 
 module _ (f : List ℕ) (s : SoundFileOf long_symbols f) where
   pub long-count : long_count (template_rules_of long_symbols f) ≡ rule_count f

@@ -11,7 +11,8 @@ use native.Mathlib.Omega.{arith}
 use lib.Dec.{ltb, leb}
 use lib.ListN.{get_or}
 use borrow.Author.Tests.{ltb-true, eqb-true, lt-ltb, le-ltb, le-leb}
-use Rattle.numbers.proofs.TestLaws.{ext_true, and_out, or_out}
+use Rattle.numbers.proofs.TestLaws.{ext_true}
+use Rattle.std.proofs.lemmas.Bool.{and_parts, or_cases}
 use Rattle.entries.specs.Tests.{first_fault}
 use Rattle.entries.specs.Entries.{rule_symbols, is_symbol, symbol_holds, symbol_tests, field_tests}
 use Rattle.std.specs.Prelude.{Result, Ok, Err}
@@ -35,10 +36,10 @@ symbol_wider A N M b h e =
     ⊎_elim (λ k. rw k refl)
     (λ k. ⊎_elim (λ p. rw p (or-true (ltb b A)))
     (λ p.
-    let q = and_out (leb 64 b) p in
+    let q = and_parts (leb 64 b) _ p in
     rw (q.0, lt-ltb b (64 + M) (omega (arith, ltb-true b (64 + N) q.1)), or-true (leb 32 b && ltb b (32 + A)), or-true (ltb b A)) refl)
-    (or_out (leb 32 b && ltb b (32 + A)) k))
-    (or_out (ltb b A) e)
+    (or_cases (leb 32 b && ltb b (32 + A)) _ k))
+    (or_cases (ltb b A) _ e)
 
 holds_wider : (used : Bool) (A N M b : ℕ) → N ≤ M → symbol_holds used A N b ≡ true → symbol_holds used A M b ≡ true
 holds_wider true A N M b h e = symbol_wider A N M b h e

@@ -14,7 +14,7 @@ use borrow.Author.Tests.{ltb-true, eqb-true}
 use lib.Dec.{ltb, eqb}
 use lib.ListN.{length, take, drop}
 use lib.Seq.{take_all}
-use Rattle.numbers.proofs.TestLaws.{and_out, or_out}
+use Rattle.std.proofs.lemmas.Bool.{and_parts, or_cases}
 use Rattle.rows.specs.Tables.{order, Ascending, row_at, rows_of, flat}
 use Rattle.std.specs.declared.cmp.Ordering.TheVariants.{Less}
 use Rattle.rows.proofs.OrderLaws.{order_below, order_on, less_irrefl, less_trans}
@@ -33,7 +33,7 @@ precedes_less [] y e = absurd (false≢true e)
 precedes_less (x ∷ xs) [] e = absurd (false≢true e)
 precedes_less (x ∷ xs) (y ∷ ys) e =
     ⊎_elim (λ l. order_below x y xs ys (ltb-true x y l))
-    (λ r. let h = and_out (eqb x y) r in order_on x y xs ys (eqb-true x y h.0) ∙ precedes_less xs ys h.1) (or_out (ltb x y) e)
+    (λ r. let h = and_parts (eqb x y) _ r in order_on x y xs ys (eqb-true x y h.0) ∙ precedes_less xs ys h.1) (or_cases (ltb x y) _ e)
 
 pub entry_row : (w : ℕ) (l : List ℕ) (i : ℕ) → entry w l i ≡ row_at w l i
 entry_row w l i = ap (λ (k : ℕ). take w (drop k l)) (mul_comm w i)

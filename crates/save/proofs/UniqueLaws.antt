@@ -10,7 +10,7 @@ use native.Mathlib.Nat.{one-mul}
 use native.Mathlib.Omega.{arith}
 use borrow.Author.Tests.{ltb-true}
 use lib.Dec.{ltb, eqb}
-use Rattle.numbers.proofs.TestLaws.{and_out, or_out}
+use Rattle.std.proofs.lemmas.Bool.{and_parts, or_cases}
 use lib.ListN.{length}
 use lib.Seq.{drop-cons}
 use Rattle.entries.specs.Entries.{byte_at, width, precedes, field_tests}
@@ -131,7 +131,7 @@ module _ (A N Q : ℕ) (a : A < 256) (n : N < 256) (q : Q < 256) where
 one_precedes : (x y : ℕ) → precedes (x ∷ []) (y ∷ []) ≡ true → x < y
 unfolding precedes
 one_precedes x y e =
-    ⊎_elim (λ l. ltb-true x y l) (λ r. absurd (false≢true (and_out (eqb x y) r).1)) (or_out (ltb x y) e)
+    ⊎_elim (λ l. ltb-true x y l) (λ r. absurd (false≢true (and_parts (eqb x y) _ r).1)) (or_cases (ltb x y) _ e)
 
 -- state i of an ascending list is i at least
 module _ (n : ℕ) (list : List ℕ) (whole : length list ≡ n) (ascent : EntriesAscend 1 n list) where
