@@ -9,6 +9,7 @@ use lib.Dec.{eqb}
 use lib.ListN.{length, set, take, drop}
 use borrow.Author.Rules.{rules}
 use Rattle.std.specs.Prelude.{Option, Some, None}
+use Rattle.std.proofs.lemmas.List.{length-take-le, length-drop}
 use borrow.Author.Tests.{eqb-true, eq-eqb}
 use Rattle.words.specs.Reduced.{Stack}
 use Rattle.words.specs.declared.Tag as class
@@ -53,9 +54,12 @@ form_fits empty t (Rows x) k form last f = row_of_fits t k x form last f
 
 -- ---- a row, as a part of the table
 
-pub row_test : (t : List ℕ) (k x v : ℕ) → v ≡ nonterminal_in (take (k * row_width + row_width - k * row_width) (drop (k * row_width) t))
-    → eqb v x ≡ eqb (nonterminal_in (table_row t k)) x
-row_test t k x v e = rw (← (row_part row_width (k * row_width) t), e)
+pub row_is : (t : List ℕ) (k : ℕ) (row : List ℕ) → row ≡ take (k * row_width + row_width - k * row_width) (drop (k * row_width) t)
+    → row ≡ table_row t k
+row_is t k row e = e ∙ row_part row_width (k * row_width) t
+
+pub row_long : (t : List ℕ) (k : ℕ) (row : List ℕ) → k * row_width + row_width ≤ length t → row ≡ table_row t k → length row ≡ row_width
+row_long t k row l e = rw e (length-take-le row_width (drop (k * row_width) t) (omega (arith, length-drop (k * row_width) t)))
 
 -- ---- forms in the arrays
 
@@ -104,16 +108,15 @@ module _ (empty : Piece) (t : List ℕ) (s : Slot) (k : ℕ) (names values : Lis
   loads_rows x e w = rw e w
 
 module _ (t : List ℕ) (k x : ℕ) (fits : Bool) (told : fits ≡ eqb (nonterminal_in (table_row t k)) x) (packs : SomePairRow (table_row t k)) where
-  pub loads_row : (c : Counts) (names values : List ℕ) → fits ≡ true
-      → summary_of c names values ≡ summary_in (take (k * row_width + row_width - k * row_width) (drop (k * row_width) t))
-      → Loads (RowOf (table_row t k) x) (Some c) names values
-  loads_row c names values f is =
+  pub loads_row : (c : Counts) (names values read : List ℕ) → fits ≡ true → read ≡ table_row t k
+      → summary_of c names values ≡ summary_in read → Loads (RowOf (table_row t k) x) (Some c) names values
+  loads_row c names values read f e is =
       let (p, r) = packs in
       let row = table_row t k in
       let of : p.of ≡ x =
       sym (row_nonterminal row p.of p.form p.last r) ∙ eqb-true (nonterminal_in row) x (sym told ∙ f) in
       subst (λ (s : Summary). Holds s × RowOf row x (form_of s) (last_of s))
-      (sym (is ∙ ap (λ (l : List ℕ). summary_in l) (row_part row_width (k * row_width) t))) (
+      (sym (is ∙ ap (λ (l : List ℕ). summary_in l) e)) (
         row_holds row p.of p.form p.last r,
         rw (row_form row p.of p.form p.last r, row_last row p.of p.form p.last r, ← of) r,
       )
@@ -125,7 +128,8 @@ module _ (t : List ℕ) (k x : ℕ) (fits : Bool) (told : fits ≡ eqb (nontermi
 pub ruleset loads = (
   row_within,
   row_packs,
-  row_test,
+  row_is,
+  row_long,
   loads_end,
   loads_start,
   loads_absent,

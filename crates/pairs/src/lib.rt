@@ -62,14 +62,22 @@ pub fn slot_of(used: bool, byte: u8) -> Slot
     }
 }
 
+// Row k of a table.
+pub fn row(table: &[u64], k: usize) -> &[u64]
+    requires { k * row_width + row_width ≤ length table.now }
+    ensures { result.now ≡ table_row table.now k }
+{
+    let at = k * worktable::ROW;
+    let end = at + worktable::ROW;
+    &table[at..end]
+}
+
 // Is row k one of the nonterminal x?
 fn row_fits(table: &[u64], k: usize, x: u8) -> bool
     requires { k * row_width + row_width ≤ length table.now }
     ensures { result ≡ eqb (nonterminal_in (table_row table.now k)) x }
 {
-    let at = k * worktable::ROW;
-    let e = at + worktable::ROW;
-    worktable::nonterminal(&table[at..e]) == x
+    worktable::nonterminal(row(table, k)) == x
 }
 
 // Is choice k of the slot one of its own: no row of another nonterminal?
@@ -124,9 +132,7 @@ fn load_row(
     if !row_fits(table, k, x) {
         return None;
     }
-    let at = k * worktable::ROW;
-    let e = at + worktable::ROW;
-    Some(worktable::unpack(&table[at..e], names, values))
+    Some(worktable::unpack(row(table, k), names, values))
 }
 
 // Puts choice k of a slot into two arrays of zeros, with so many ends and starts; a row of another nonterminal is no choice.

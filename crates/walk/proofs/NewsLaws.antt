@@ -16,13 +16,13 @@ use Rattle.numbers.specs.Bits.{bit}
 use Rattle.pieces.specs.declared.Piece.{Piece}
 use Rattle.useful.specs.Marks.{with_mark}
 use Rattle.useful.proofs.PassLaws.{mark_bit}
-use Rattle.rows.proofs.TableLaws.{row_part}
 use Rattle.worktable.specs.Packed.{row_width, nonterminal_in}
 use Rattle.worktable.proofs.RowLaws.{row_nonterminal}
 use Rattle.pairs.specs.Books.{book_of, table_row}
 use Rattle.pairs.specs.Slots.{Choice, new_from}
 use Rattle.pairs.specs.declared.Slot.{Slot}
 use Rattle.pairs.specs.declared.Slot.TheVariants.{Absent, Single, Rows}
+use Rattle.pairs.proofs.LoadLaws.{row_long}
 use Rattle.shares.proofs.ShareLaws.{below_next}
 use Rattle.walk.specs.News.{marks_from, news, renews}
 use Rattle.walk.proofs.ValidLaws.{or_false_right}
@@ -34,14 +34,13 @@ module _ (t : List ℕ) where
   unfolding news marks_from
   news_none a = let e : a - a ≡ 0 = omega arith in rw e
 
-  pub news_next : (a k marks next v w : ℕ) → a ≤ k → marks ≡ news t a k
-      → v ≡ nonterminal_in (take (k * row_width + row_width - k * row_width) (drop (k * row_width) t)) → w ≡ v → next ≡ with_mark marks (w % 64)
-      → next ≡ news t a (k + 1)
+  pub news_next : (a k marks next v w : ℕ) (row : List ℕ) → a ≤ k → marks ≡ news t a k → row ≡ table_row t k → v ≡ nonterminal_in row
+      → w ≡ v → next ≡ with_mark marks (w % 64) → next ≡ news t a (k + 1)
   unfolding news marks_from
-  news_next a k marks next v w l so_far read wide e =
+  news_next a k marks next v w row l so_far is read wide e =
       let one : k + 1 - a ≡ suc (k - a) = omega arith in
       let at : a + (k - a) ≡ k = omega arith in
-      rw (e, so_far, wide, read, row_part row_width (k * row_width) t, one, at)
+      rw (e, so_far, wide, read, is, one, at)
 
   -- where e is not past a the loop does not begin
   pub news_end : (a e k marks : ℕ) → marks ≡ news t a k → e ≤ k → k - a ≤ e - a → marks ≡ news t a e
@@ -81,4 +80,4 @@ module _ (t : List ℕ) where
             ∙ (rw (row_nonterminal (table_row t k) x s c r) at (news_bit prev n k (omega arith) l))))
       ]
 
-pub ruleset news_laws = (news_none, news_next, news_end, rules)
+pub ruleset news_laws = (news_none, news_next, news_end, row_long, rules)

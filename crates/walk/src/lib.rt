@@ -93,12 +93,8 @@ fn news(table: &[u64], a: usize, e: usize) -> u64
 {
     let mut marks = 0u64;
     for k in a..e {
-        let at = k * worktable::ROW;
-        let to = at + worktable::ROW;
-        marks = useful::mark(
-            marks,
-            usize::from(worktable::nonterminal(&table[at..to])) % 64,
-        );
+        let x = worktable::nonterminal(pairs::row(table, k));
+        marks = useful::mark(marks, usize::from(x) % 64);
     }
     marks
 }
