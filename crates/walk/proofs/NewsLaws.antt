@@ -5,10 +5,9 @@ use mathlib.Core.Path.{◌≡◌, sym, ap, ◌∙◌}
 use mathlib.Core.Bool.{Bool, true, false, false≢true, or-true}
 use mathlib.Core.List.{List}
 use mathlib.Core.Logic.{⊎_elim}
-use Prim.Native.Nat.{ℕ, zero, suc, ◌+◌, ◌-◌, ◌*◌, ◌%◌, ◌≤◌, ◌<◌}
+use Prim.Native.Nat.{ℕ, zero, suc, ◌+◌, ◌-◌, ◌%◌, ◌≤◌, ◌<◌}
 use native.Mathlib.Decide.{dec_lt}
 use native.Mathlib.Omega.{arith}
-use lib.ListN.{take, drop}
 use borrow.Author.Rules.{rules}
 use borrow.Author.Tests.{eq-eqb}
 use Rattle.words.specs.Reduced.{Stack}
@@ -16,7 +15,7 @@ use Rattle.numbers.specs.Bits.{bit}
 use Rattle.pieces.specs.declared.Piece.{Piece}
 use Rattle.useful.specs.Marks.{with_mark}
 use Rattle.useful.proofs.PassLaws.{mark_bit}
-use Rattle.worktable.specs.Packed.{row_width, nonterminal_in}
+use Rattle.worktable.specs.Packed.{nonterminal_in}
 use Rattle.worktable.proofs.RowLaws.{row_nonterminal}
 use Rattle.pairs.specs.Books.{book_of, table_row}
 use Rattle.pairs.specs.Slots.{Choice, new_from}
