@@ -1,5 +1,5 @@
 -- A whole form more on the arrays (specs/Steps.antt), tag by tag: `turned` is what stands after k of its tags, counted from the state
--- after its first piece. One turn of the code leads from k tags to k + 1, a refusal stays a refusal to the end, and after all tags it is
+-- after its first piece. One tag of the code with its word leads from k tags to k + 1, a refusal stays a refusal to the end, and after all tags it is
 -- the join. Since the arrays hold ends before starts, the limit at each tag says the same as the limit at the end. Assumes nothing.
 use mathlib.Core.Path.{◌≡◌, refl, sym, ap, ◌∙◌}
 use mathlib.Core.List.{List}
@@ -16,7 +16,7 @@ use Rattle.words.proofs.LimitLaws.{join_within_limit}
 use Rattle.pieces.specs.declared.Piece.{Piece}
 use Rattle.pieces.specs.Pieces.{most_tags, piece_at, put_piece, pieces}
 use Rattle.form.specs.Held.{tag_of, tag_at, stack_of, tag_count, summary_of, form_of, last_of, Holds}
-use Rattle.form.specs.Steps.{held, outcome, Stepped, after_tag, after_turn, after_form}
+use Rattle.form.specs.Steps.{held, outcome, Stepped, after_tag, after_form}
 use Rattle.form.specs.declared.Counts.{Counts}
 use Rattle.form.specs.declared.Summary.{Summary}
 use Rattle.form.specs.declared.Clash.{Clash}
@@ -64,18 +64,27 @@ module _ (lore : List ℕ) where
     turned_refused clash names' values' k n l p =
         let z : n - k + k ≡ n = omega arith in rw z at (turned_later clash names' values' k (n - k) p)
 
-    -- one turn of the code, after k tags
-    module _ (c : Counts) (k : ℕ) (names₁ values₁ : List ℕ) (r : Result Counts Clash) (names₂ values₂ : List ℕ) (v : Piece)
-        (part : v ≡ piece_at values (k + 1))
-        (told : Stepped r names₂ values₂ (after_turn lore (summary_of c names₁ values₁) (tag_of (ltb k e) (get_or names k 0)) v))
+    -- one tag of the code, after k tags, and its word
+    module _ (c : Counts) (k : ℕ) (names₁ values₁ : List ℕ) (r : Result Counts Clash) (names₂ values₂ : List ℕ)
+        (told : Stepped r names₂ values₂ (after_tag lore (summary_of c names₁ values₁) (tag_of (ltb k e) (get_or names k 0))))
         (sofar : held (summary_of c names₁ values₁) ≡ turned o e names values k) where
-      pub turned_next : outcome r names₂ values₂ ≡ turned o e names values (k + 1)
-      unfolding after_turn after_tag turned then_tag_within tag_at
-      turned_next = rw (add-one k, ← sofar) (rw (part, add-one k) at told.says)
+      tag_next : outcome r names₂ values₂ ≡ then_tag_within (pieces lore) most_tags (turned o e names values k) (tag_at e names k)
+      unfolding after_tag then_tag_within tag_at
+      tag_next = rw (← sofar) told.says
 
-      pub turned_kept : (d : Counts) → r ≡ Ok d → held (summary_of d names₂ values₂) ≡ turned o e names values (k + 1)
-      unfolding outcome
-      turned_kept d p = rw p at turned_next
+      pub turned_kept : (d : Counts) → r ≡ Ok d → (v : Piece) → v ≡ piece_at values (k + 1) → (values₃ : List ℕ)
+          → values₃ ≡ put_piece values₂ (tag_count d) ((pieces lore).compose (piece_at values₂ (tag_count d)) v)
+          → held (summary_of d names₂ values₃) ≡ turned o e names values (k + 1)
+      unfolding outcome turned
+      turned_kept d p v part values₃ added =
+          held_value lore d v names₂ values₂ values₃ (kept_holds r names₂ values₂ _ d told p) added
+          ∙ rw (part, add-one k) (ap (λ o. then_value_within (pieces lore) o (piece_at values (suc k))) (rw p at tag_next))
+
+      pub turned_stopped : (clash : Clash) → r ≡ Err clash → outcome (Err clash) names₂ values₂ ≡ turned o e names values (k + 1)
+      unfolding turned
+      turned_stopped clash p =
+          sym (refused_value lore clash names₂ values₂ (piece_at values (suc k)))
+          ∙ rw (add-one k) (ap (λ o. then_value_within (pieces lore) o (piece_at values (suc k))) (rw p at tag_next))
 
   -- the limit at each tag is the limit at the end
   pub form_limit : (s more : Summary) → tag_count s.counts ≤ most_tags → after_form lore s more
@@ -109,16 +118,15 @@ module _ (lore : List ℕ) where
         let z : k ≡ tag_count more.counts = omega arith in
         stepped_held d names values (after_form lore s more) h (rw z at i ∙ sym form_turned)
 
-    pub form_refused : (d : Counts) (k : ℕ) (names values : List ℕ) (r : Result Counts Clash) (names' values' : List ℕ) (w : Piece)
-        → held (summary_of d names values) ≡ after k → k < tag_count more.counts → w ≡ piece_at more.values (k + 1)
-        → Stepped r names' values'
-        (after_turn lore (summary_of d names values) (tag_of (ltb k more.counts.ends) (get_or more.names k 0)) w)
+    pub form_refused : (d : Counts) (k : ℕ) (names values : List ℕ) (r : Result Counts Clash) (names' values' : List ℕ)
+        → held (summary_of d names values) ≡ after k → k < tag_count more.counts
+        → Stepped r names' values' (after_tag lore (summary_of d names values) (tag_of (ltb k more.counts.ends) (get_or more.names k 0)))
         → (clash : Clash) → r ≡ Err clash → Stepped (Err clash) names' values' (after_form lore s more)
-    form_refused d k names values r names' values' w i l q h clash p =
+    form_refused d k names values r names' values' i l h clash p =
         let o = held (summary_of s.counts s.names first) in
         let e = more.counts.ends in
         refused_says clash names' values' names' values' (after_form lore s more)
         (turned_refused o e more.names more.values clash names' values' (k + 1) (tag_count more.counts) (omega arith)
-        (rw p at (turned_next o e more.names more.values d k names values r names' values' w q h i)) ∙ sym form_turned)
+        (turned_stopped o e more.names more.values d k names values r names' values' h i clash p) ∙ sym form_turned)
 
 pub ruleset form_laws = (kept_holds, holds_more, turned_none, turned_kept, form_end, form_refused, rules)

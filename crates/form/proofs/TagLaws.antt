@@ -1,7 +1,7 @@
 -- One tag more on the arrays (specs/Steps.antt), case by case as the code meets them: a start or an end kept, or one too many; an end
 -- that meets a start of its own name, or of another. What the arrays hold follows from HeldLaws, what the tag makes of it from the
--- equations of a step and of the limit in words. A tag with a balanced word behind it follows from the tag alone by TurnLaws. The counts
--- and the pieces that a function is told are variables, with equations. Assumes nothing.
+-- equations of a step and of the limit in words. The counts and the pieces that a function is
+-- told are variables, with equations. Assumes nothing.
 use mathlib.Core.Path.{◌≡◌, refl, sym, ap₂, ◌∙◌}
 use mathlib.Core.Bool.{Bool, true, false, ◌&&◌}
 use mathlib.Core.List.{List}
@@ -20,14 +20,14 @@ use Rattle.pieces.specs.declared.Piece.{Piece}
 use Rattle.pieces.specs.Pieces.{most_tags, pieces_long, zero_piece, piece_at, put_piece, pieces, Counted}
 use Rattle.pieces.proofs.PieceLaws.{piece_same, put_length, put_counted, none_counted, counted_compose}
 use Rattle.form.specs.Held.{tag_of, stack_of, tag_count, summary_of, form_of, last_of, Holds}
-use Rattle.form.specs.Steps.{Stepped, after_tag, after_turn}
+use Rattle.form.specs.Steps.{Stepped, after_tag}
 use Rattle.form.specs.declared.Counts.{Counts}
 use Rattle.form.specs.declared.Summary.{Summary}
 use Rattle.form.specs.declared.Clash.{Clash}
 use Rattle.form.specs.declared.Clash.TheVariants.{Mismatch, TooDeep}
 use Rattle.form.proofs.HeldLaws.{tag_start, stack_last, stack_put_start, stack_put_end, stack_take}
 use Rattle.form.proofs.HeldLaws.{unused_none, unused_put, unused_take, value_taken, tags_held, only_ends_held, ends_first_held}
-use Rattle.form.proofs.TurnLaws.{stepped_held, stepped_differs, stepped_deep, one_start, one_end, meets_none, turn_kept, from_tag}
+use Rattle.form.proofs.TurnLaws.{stepped_held, stepped_differs, stepped_deep, one_start, one_end, meets_start, meets_none}
 
 -- the arrays before any tag, and after a tag more or less
 
@@ -111,18 +111,10 @@ module _ (lore : List ℕ) (s : Summary) where
         stepped_deep names values (after_tag lore s t)
         (tag_put t f ∙ limit_out (pieces lore) most_tags form (pieces lore).unit (omega (arith, form_tags)))
 
-    pub start_deep : (closes : Bool) → closes ≡ false → most_tags ≤ tag_count s.counts
-        → Stepped (Err TooDeep) names values (after_tag lore s (tag_of closes name))
-    start_deep closes f l = rw f (tag_deep (start name) (behind_all name) l)
-
-    pub end_deep : (closes : Bool) → closes ≡ true → s.counts.starts ≤ 0 → most_tags ≤ tag_count s.counts
-        → Stepped (Err TooDeep) names values (after_tag lore s (tag_of closes name))
-    end_deep closes f z l = rw f (tag_deep (end name) (behind_ends name z) l)
-
     pub stays_deep : (closes : Bool) → (closes && ltb 0 s.counts.starts) ≡ false → most_tags ≤ tag_count s.counts
         → Stepped (Err TooDeep) names values (after_tag lore s (tag_of closes name))
-    stays_deep true t l = end_deep true refl (meets_none s.counts.starts true refl t) l
-    stays_deep false t l = start_deep false refl l
+    stays_deep true t l = tag_deep (end name) (behind_ends name (meets_none s.counts.starts true refl t)) l
+    stays_deep false t l = tag_deep (start name) (behind_all name) l
 
     -- a tag kept behind the others; v is the empty word's piece
     module _ (d : Counts) (v : Piece) (closes : Bool) (unit : v ≡ (pieces lore).unit) (h : Holds s) (l : tag_count s.counts < most_tags)
@@ -213,17 +205,8 @@ module _ (lore : List ℕ) (s : Summary) where
       pub end_meets : (v : Piece) → v ≡ whole → values ≡ taken v → Stepped (Ok d) names values (after_tag lore s (end name))
       end_meets v r q = rw (q, r) end_taken
 
-      -- and a balanced word behind it
-      pub end_cancels : (v u : Piece) → u ≡ (pieces lore).compose whole v → values ≡ taken u
-          → Stepped (Ok d) names values (after_turn lore s (end name) v)
-      end_cancels v u r q =
-          let n = tag_count s.counts in
-          turn_kept lore s (end name) v names values d (n - 1) (put_piece s.values n zero_piece) whole u q r one_less end_taken
+    pub end_met : (closes : Bool) (r : Result Counts Clash) → (closes && ltb 0 s.counts.starts) ≡ true
+        → Stepped r names values (after_tag lore s (end name)) → Stepped r names values (after_tag lore s (tag_of closes name))
+    end_met closes r t h = rw (meets_start s.counts.starts closes t).0 h
 
-    pub end_met : (closes : Bool) (r : Result Counts Clash) → closes ≡ true → Stepped r names values (after_tag lore s (end name))
-        → Stepped r names values (after_tag lore s (tag_of closes name))
-    end_met closes r f h = rw f h
-
-pub ruleset tag_laws = (start_deep, start_kept, end_deep, end_kept, end_differs, end_meets, end_met, rules)
-
-pub ruleset turn_laws = (start_kept, end_kept, stays_deep, end_differs, end_cancels, from_tag, rules)
+pub ruleset tag_laws = (start_kept, end_kept, stays_deep, end_differs, end_meets, end_met, meets_start, meets_none, rules)

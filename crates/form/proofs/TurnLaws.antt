@@ -1,8 +1,7 @@
--- What a step of the arrays says (specs/Steps.antt) by its variant, a balanced word more, and one turn: a tag and a balanced word. A
--- step that is kept says what the arrays hold, and the word's piece goes into their last place; a refusal says the same whatever they
--- hold, and nothing after it changes it. A turn follows from what the tag alone would do, since the turn writes over the last piece that
--- the tag alone would leave. Assumes nothing.
-use mathlib.Core.Path.{◌≡◌, refl, sym, ap, ap₂, ◌∙◌}
+-- What a step of the arrays says (specs/Steps.antt) by its variant, and a balanced word more. A step that is kept says what the arrays
+-- hold, and the word's piece goes into their last place; a refusal says the same whatever they hold, and nothing after it changes it.
+-- Assumes nothing.
+use mathlib.Core.Path.{◌≡◌, refl, sym, ap₂, ◌∙◌}
 use mathlib.Core.Bool.{Bool, true, false, false≢true, ◌&&◌}
 use mathlib.Core.List.{List}
 use Prim.Native.Nat.{ℕ, ◌+◌, ◌≤◌, ◌<◌}
@@ -10,18 +9,17 @@ use native.Mathlib.Omega.{arith}
 use lib.Dec.{ltb}
 use borrow.Author.Tests.{ltb-true, ltb-false}
 use Rattle.std.specs.Prelude.{Result, Ok, Err}
-use Rattle.words.specs.Tags.{Tag, end}
+use Rattle.words.specs.Tags.{Tag}
 use Rattle.words.specs.Reader.{Limited, fits, differs, too_deep, then_tag_within, then_value_within}
 use Rattle.pieces.specs.declared.Piece.{Piece}
-use Rattle.pieces.specs.Pieces.{most_tags, piece_at, put_piece, pieces, Counted}
+use Rattle.pieces.specs.Pieces.{piece_at, put_piece, pieces, Counted}
 use Rattle.pieces.proofs.PieceLaws.{piece_same, put_length, put_counted, counted_compose}
-use Rattle.form.specs.Held.{tag_of, tag_count, summary_of, Holds}
-use Rattle.form.specs.Steps.{held, outcome, Stepped, after_tag, after_turn}
+use Rattle.form.specs.Held.{tag_count, summary_of, Holds}
+use Rattle.form.specs.Steps.{held, outcome, Stepped}
 use Rattle.form.specs.declared.Counts.{Counts}
-use Rattle.form.specs.declared.Summary.{Summary}
 use Rattle.form.specs.declared.Clash.{Clash}
 use Rattle.form.specs.declared.Clash.TheVariants.{Mismatch, TooDeep}
-use Rattle.form.proofs.HeldLaws.{stack_value, unused_value, value_over}
+use Rattle.form.proofs.HeldLaws.{stack_value, unused_value}
 
 -- what a step says
 
@@ -103,46 +101,9 @@ module _ (d : Counts) (e n : ℕ) where
 -- where it is tested at once that the tag is an end and meets a start
 
 module _ (n : ℕ) where
-  pub meets_start : (closes : Bool) → (closes && ltb 0 n) ≡ true → 0 < n
-  meets_start true t = ltb-true 0 n t
+  pub meets_start : (closes : Bool) → (closes && ltb 0 n) ≡ true → (closes ≡ true) × (0 < n)
+  meets_start true t = (refl, ltb-true 0 n t)
   meets_start false t = absurd (false≢true t)
 
   pub meets_none : (closes : Bool) → closes ≡ true → (closes && ltb 0 n) ≡ false → n ≤ 0
   meets_none closes e t = ltb-false 0 n (rw e at t)
-
--- one turn, from what the tag alone would make of the arrays
-module _ (lore : List ℕ) (s : Summary) (t : Tag) (v : Piece) (names values : List ℕ) where
-  -- the word's piece goes over the one that the tag alone would leave in the last place
-  pub turn_kept : (d : Counts) (n : ℕ) (before : List ℕ) (p q : Piece) → values ≡ put_piece before n q
-      → q ≡ (pieces lore).compose p v → tag_count d ≡ n → Stepped (Ok d) names (put_piece before n p) (after_tag lore s t)
-      → Stepped (Ok d) names values (after_turn lore s t v)
-  unfolding after_turn outcome
-  turn_kept d n before p q w r e told =
-      let alone = put_piece before n p in
-      let h : Holds (summary_of d names alone) = told.holds in
-      let long = sym (put_length before n p) ∙ h.values_long in
-      let room : n ≤ most_tags = omega (arith, h.room) in
-      let more = (pieces lore).compose (piece_at alone (tag_count d)) v in
-      let last = piece_same before n p long room in
-      let over : values ≡ put_piece alone (tag_count d) more = rw (e, last, ← r, w) (sym (value_over n p q before long room)) in
-      stepped_held d names values (after_turn lore s t v)
-      (holds_more lore d (piece_at alone (tag_count d)) v names alone values over h)
-      (held_value lore d v names alone values h over ∙ ap (λ o. then_value_within (pieces lore) o v) told.says)
-
-  pub turn_refused : (e : Clash) → Stepped (Err e) names values (after_tag lore s t)
-      → Stepped (Err e) names values (after_turn lore s t v)
-  unfolding after_turn
-  turn_refused e told =
-      refused_says e names values names values (then_value_within (pieces lore) (after_tag lore s t) v)
-      (sym (refused_value lore e names values v) ∙ ap (λ o. then_value_within (pieces lore) o v) told.says)
-
--- an end that meets a start
-pub turn_met : (lore : List ℕ) (s : Summary) (name n : ℕ) (v : Piece) (names values : List ℕ) (closes : Bool) (r : Result Counts Clash)
-    → (closes && ltb 0 n) ≡ true → Stepped r names values (after_turn lore s (end name) v)
-    → Stepped r names values (after_turn lore s (tag_of closes name) v)
-turn_met lore s name n v names values true r t h = h
-turn_met lore s name n v names values false r t h = absurd (false≢true t)
-
--- a turn, where a law tells the step of its tag
-pub ruleset from_tag =
-    (one_start, one_end, meets_start, meets_none, turn_kept, turn_refused, turn_met)

@@ -1,7 +1,7 @@
--- One tag more, one piece more, and joining, on the arrays: words/specs/Reader.antt over the pieces of a lore, at most 16 tags.
+-- One tag more, and joining, on the arrays: words/specs/Reader.antt over the pieces of a lore, at most 16 tags.
 use Rattle.std.specs.Prelude.{◌≡◌, List, ℕ, Result, Ok, Err}
 use Rattle.words.specs.Tags.{Tag}
-use Rattle.words.specs.Reader.{Limited, fits, differs, too_deep, step, limit, then_value_within, join_within}
+use Rattle.words.specs.Reader.{Limited, fits, differs, too_deep, step, limit, join_within}
 use Rattle.pieces.specs.declared.Piece.{Piece}
 use Rattle.pieces.specs.Pieces.{most_tags, pieces}
 use Rattle.form.specs.Held.{summary_of, form_of, last_of, Holds}
@@ -33,10 +33,6 @@ module _ (lore : List ℕ) where
   -- one tag more
   unfoldable pub after_tag : Summary → Tag → Limited Piece
   after_tag s t = limit (pieces lore) most_tags (step (pieces lore) (form_of s) (last_of s) t)
-
-  -- one tag and a balanced word of the piece p more
-  unfoldable pub after_turn : Summary → Tag → Piece → Limited Piece
-  after_turn s t p = then_value_within (pieces lore) (after_tag s t) p
 
   -- a whole form more
   unfoldable pub after_form : Summary → Summary → Limited Piece

@@ -10,7 +10,7 @@ ghost use Rattle.lore.specs.Lore.{IsLore};
 ghost use Rattle.pieces.specs.declared.Piece.{Piece};
 ghost use Rattle.pieces.specs.Pieces.{most_tags, zero_piece, piece_at, put_piece, pieces};
 ghost use Rattle.form.specs.Held.{tag_of, tag_count, summary_of, Holds};
-ghost use Rattle.form.specs.Steps.{Stepped, after_tag, after_turn, after_form};
+ghost use Rattle.form.specs.Steps.{Stepped, after_tag, after_form};
 ghost use Rattle.form.specs.Endings.{balance_of, ending_of};
 
 // How many unmatched ends and starts.
@@ -85,6 +85,7 @@ fn take_tag(
 }
 
 // The piece of a word and, behind it, the element of this name around another word.
+#[inline(always)]
 fn closed(
     lore: &[u64; lore::LORE],
     name: u8,
@@ -99,6 +100,7 @@ fn closed(
 }
 
 // An end tag where starts stand unmatched: it meets the innermost.
+#[inline(always)]
 fn meet(
     lore: &[u64; lore::LORE],
     names: &mut [u8; pieces::TAGS],
@@ -127,7 +129,8 @@ fn meet(
     Ok(counted(c.ends, c.starts - 1))
 }
 
-// One tag more. Callers pass `closes` as a constant, one call for each kind: the loop over bytes then has the start tag's path in it.
+// One tag more. It stands in its callers' loops: reading, which passes `closes` as a constant, is faster by that.
+#[inline(always)]
 pub fn then_tag(
     lore: &[u64; lore::LORE],
     names: &mut [u8; pieces::TAGS],
@@ -142,20 +145,16 @@ pub fn then_tag(
         (after_tag lore.now (summary_of c names.old values.old) (tag_of closes name)) }
 {
     let n = c.ends + c.starts;
-    if closes {
-        if 0 < c.starts {
-            return meet(lore, names, values, c, name);
-        }
-        if pieces::TAGS <= n {
-            return Err(Clash::TooDeep);
-        }
-        put_tag(names, values, n, name, pieces::empty(lore));
-        return Ok(counted(c.ends + 1, 0));
+    if closes & (0 < c.starts) {
+        return meet(lore, names, values, c, name);
     }
     if pieces::TAGS <= n {
         return Err(Clash::TooDeep);
     }
     put_tag(names, values, n, name, pieces::empty(lore));
+    if closes {
+        return Ok(counted(c.ends + 1, 0));
+    }
     Ok(counted(c.ends, c.starts + 1))
 }
 
@@ -174,85 +173,6 @@ fn add_value(
     let before = pieces::piece_at(values, n);
     let both = pieces::follow(lore, before, value);
     pieces::put_piece(values, n, both);
-}
-
-// The piece of a word, the element of this name around another word, and a word behind it.
-fn closed_between(
-    lore: &[u64; lore::LORE],
-    name: u8,
-    before: pieces::Piece,
-    inner: pieces::Piece,
-    behind: pieces::Piece,
-) -> pieces::Piece
-    requires { IsLore most_states lore.now }
-    ensures { result ≡ (pieces lore.now).compose
-        ((pieces lore.now).compose before ((pieces lore.now).wrap name inner)) behind }
-{
-    let element = pieces::element(lore, name, inner);
-    let whole = pieces::follow(lore, before, element);
-    pieces::follow(lore, whole, behind)
-}
-
-// An end tag where starts stand unmatched, and a balanced word of this piece: the end meets the innermost.
-fn cancel(
-    lore: &[u64; lore::LORE],
-    names: &mut [u8; pieces::TAGS],
-    values: &mut [u64; pieces::PIECES],
-    c: Counts,
-    name: u8,
-    value: pieces::Piece,
-) -> Result<Counts, Clash>
-    requires lore { IsLore most_states lore.now }
-    requires holds { Holds (summary_of c names.old values.old) }
-    requires starts_nonzero { 0 < c.starts }
-    ensures { Stepped result names.new values.new
-        (after_turn lore.now (summary_of c names.old values.old) (tag_of true name) value) }
-{
-    let n = c.ends + c.starts;
-    let innermost = names[n - 1];
-    if innermost != name {
-        return Err(Clash::Mismatch(innermost, name));
-    }
-    let both = closed_between(
-        lore,
-        name,
-        pieces::piece_at(values, n - 1),
-        pieces::piece_at(values, n),
-        value,
-    );
-    take_tag(names, values, n, both);
-    Ok(counted(c.ends, c.starts - 1))
-}
-
-// One tag more, and a balanced word of this piece. Not by `then_tag`: the compiler puts that into the loop over bytes only while reading
-// alone calls it.
-fn turn(
-    lore: &[u64; lore::LORE],
-    names: &mut [u8; pieces::TAGS],
-    values: &mut [u64; pieces::PIECES],
-    c: Counts,
-    closes: bool,
-    name: u8,
-    value: pieces::Piece,
-) -> Result<Counts, Clash>
-    requires lore { IsLore most_states lore.now }
-    requires holds { Holds (summary_of c names.old values.old) }
-    ensures { Stepped result names.new values.new
-        (after_turn lore.now (summary_of c names.old values.old) (tag_of closes name) value) }
-{
-    if closes & (0 < c.starts) {
-        return cancel(lore, names, values, c, name, value);
-    }
-    let kept = c.ends + c.starts;
-    if pieces::TAGS <= kept {
-        return Err(Clash::TooDeep);
-    }
-    let both = pieces::follow(lore, pieces::empty(lore), value);
-    put_tag(names, values, kept, name, both);
-    if closes {
-        return Ok(counted(c.ends + 1, 0));
-    }
-    Ok(counted(c.ends, c.starts + 1))
 }
 
 // A whole form more, whose tags and pieces stand in arrays of its own. Its first end meets the start that was opened last, its next end
@@ -278,15 +198,13 @@ pub fn then_form(
     let count = more.ends + more.starts;
     let mut d = c;
     for k in 0..count {
-        d = turn(
+        d = then_tag(lore, names, values, d, k < closing, tags[k])?;
+        add_value(
             lore,
-            names,
             values,
-            d,
-            k < closing,
-            tags[k],
+            d.ends + d.starts,
             pieces::piece_at(parts, k + 1),
-        )?;
+        );
     }
     Ok(d)
 }
