@@ -1,16 +1,16 @@
--- The test of every place, as a loop carries it out: none, next and end, in the words in which the code has its facts; and the two arms
--- of a choice. Then what the whole test says, by induction on the bound. Assumes nothing.
+-- The test of every place, as a loop carries it out: none, next, end, and the first place that fails; and the test of one place, by
+-- whether it is in use. Then what the whole test says, by induction on the bound. Assumes nothing.
 use mathlib.Core.Path.{◌≡◌, refl}
-use mathlib.Core.Bool.{Bool, true, false, ◌&&◌, cond}
+use mathlib.Core.Bool.{Bool, true, false, and-false}
 use mathlib.Core.List.{List}
 use Prim.Native.Nat.{ℕ, zero, suc, ◌+◌, ◌≤◌, ◌<◌}
-use native.Mathlib.Decide.{dec_lt}
+use native.Mathlib.Decide.{ℕ_discrete, dec_lt}
 use native.Mathlib.Nat.{not-suc-le-zero}
 use native.Mathlib.Numerals.{add-one}
 use native.Mathlib.Omega.{arith}
-use lib.Dec.{eqb, ltb, leb}
+use lib.Dec.{eqb, ltb}
 use lib.ListN.{get_or}
-use borrow.Author.Rules.{rules}
+use borrow.Author.Tests.{lt-ltb, le-ltb, le-leb, lt-leb}
 use Rattle.pieces.specs.declared.Piece.{Piece}
 use Rattle.pieces.specs.Pieces.{piece_at, fits_in, is_none}
 use Rattle.numbers.proofs.TestLaws.{and_out}
@@ -18,40 +18,46 @@ use Rattle.summary.specs.Packing.{every, name_fits, piece_fits}
 
 -- ---- the loop
 
-pub every_none : (f : ℕ → Bool) → true ≡ every 0 f
+pub every_none : (f : ℕ → Bool) → every 0 f ≡ true
 unfolding every
 every_none f = refl
 
 module _ (n : ℕ) (f : ℕ → Bool) where
-  every_next : (t u : Bool) → t ≡ every n f → u ≡ f n → (t && u) ≡ every (n + 1) f
+  pub every_next : every n f ≡ true → (u : Bool) → u ≡ f n → u ≡ true → every (n + 1) f ≡ true
   unfolding every
-  every_next t u et eu = rw (add-one, et, eu)
+  every_next e u eu t = rw (add-one, e, ← eu, t)
 
-  pub every_end : (m : ℕ) (t : Bool) → t ≡ every n f → n ≤ m → m ≤ n → t ≡ every m f
-  every_end m t e h h' = let d : n ≡ m = omega arith in rw (← d) e
+  pub every_end : every n f ≡ true → (m : ℕ) → n ≤ m → m ≤ n → true ≡ every m f
+  every_end e m h h' = let d : n ≡ m = omega arith in rw (← d, e)
 
--- one name more, one piece more
-pub names_next : (A n k : ℕ) (names : List ℕ) (t u : Bool) → t ≡ every k (name_fits A n names)
-    → u ≡ cond (ltb k n) (ltb (get_or names k 0) A) (eqb (get_or names k 0) 0)
-    → (t && u) ≡ every (k + 1) (name_fits A n names)
-unfolding name_fits
-names_next A n k names t u et eu = every_next k (name_fits A n names) t u et eu
+  pub every_fails : (u : Bool) → u ≡ f n → u ≡ false → (m : ℕ) → n < m → false ≡ every m f
+  unfolding every
+  every_fails u eu t zero l = absurd (not-suc-le-zero l)
+  every_fails u eu t (suc m) l =
+      elim (ℕ_discrete n m) [
+        | yes e ↦ rw (← e, ← eu, t, and-false)
+        | no e ↦ rw (← (every_fails u eu t m (omega arith)))
+      ]
 
-pub pieces_next : (q n k : ℕ) (values : List ℕ) (t u : Bool) → t ≡ every k (piece_fits q n values) → (p : Piece) → p ≡ piece_at values k
-    → u ≡ cond (leb k n) (fits_in q p) (is_none p)
-    → (t && u) ≡ every (k + 1) (piece_fits q n values)
-unfolding piece_fits
-pieces_next q n k values t u et p ep eu = every_next k (piece_fits q n values) t u et (rw (← ep) eu)
+-- the test of one place, by whether it is in use
 
--- ---- a choice
+module _ (A n k : ℕ) (names : List ℕ) (u : Bool) where
+  pub name_in_use : k < n → u ≡ ltb (get_or names k 0) A → u ≡ name_fits A n names k
+  unfolding name_fits
+  name_in_use l e = rw (lt-ltb k n l, e)
 
-pub cond_first : (t a b c : Bool) → t ≡ true → c ≡ a → c ≡ cond t a b
-cond_first t a b c e h = rw e h
+  pub name_unused : n ≤ k → u ≡ eqb (get_or names k 0) 0 → u ≡ name_fits A n names k
+  unfolding name_fits
+  name_unused l e = rw (le-ltb k n l, e)
 
-pub cond_second : (t a b c : Bool) → t ≡ false → c ≡ b → c ≡ cond t a b
-cond_second t a b c e h = rw e h
+module _ (q n k : ℕ) (values : List ℕ) (p : Piece) (is : p ≡ piece_at values k) (u : Bool) where
+  pub piece_in_use : k ≤ n → u ≡ fits_in q p → u ≡ piece_fits q n values k
+  unfolding piece_fits
+  piece_in_use l e = rw (le-leb k n l, e, is)
 
-pub ruleset fits_turns = (every_none, every_end, names_next, pieces_next, cond_first, cond_second, rules)
+  pub piece_unused : n < k → u ≡ is_none p → u ≡ piece_fits q n values k
+  unfolding piece_fits
+  piece_unused l e = rw (lt-leb k n l, e, is)
 
 -- ---- what passes
 

@@ -2,10 +2,10 @@
 // looks at them first, in the order of refusals (Rules, section 9).
 #![tactic(auto)]
 
-ghost use Rattle.std.specs.Prelude.{◌≡◌, true, cond, ◌↔◌, ◌+◌, ◌≤◌, ◌<◌, eqb, ltb, pos, ◌-ℤ◌, length, Ok};
+ghost use Rattle.std.specs.Prelude.{◌≡◌, true, ◌↔◌, ◌+◌, ◌≤◌, ◌<◌, pos, ◌-ℤ◌, length, Ok};
 ghost use Rattle.hedge.specs.Schema.{most_states};
 ghost use Rattle.lore.specs.Lore.{IsLore};
-ghost use Rattle.pieces.specs.Pieces.{most_tags, most_pieces, pieces, fits_in, is_none};
+ghost use Rattle.pieces.specs.Pieces.{most_tags, most_pieces, pieces};
 ghost use Rattle.template.specs.Order.{reading};
 ghost use Rattle.reader.specs.Reads.{Reads};
 ghost use Rattle.summary.specs.declared.FragmentRefusal.TheVariants as fragment;
@@ -165,37 +165,18 @@ pub fn fragment(file: &[u8], bytes: &[u8]) -> FragmentReply
     reply_of(fragment_under(file, bytes))
 }
 
-// A name in use is below the number of names, another is 0.
-fn name_fits(used: bool, name: u8, known: u8) -> bool
-    ensures { result ≡ cond used (ltb name known) (eqb name 0) }
-{
-    if used { name < known } else { name == 0 }
-}
-
 // The names in use are below the number of names, the others 0.
 fn names_fit(names: &[u8], n: usize, known: u8) -> bool
     requires { length names.now ≡ most_tags }
     ensures { result ≡ every most_tags (name_fits known n names.now) }
 {
-    let mut t = true;
-    let mut k = 0;
-    while k < pieces::TAGS {
-        t = t & name_fits(k < n, names[k], known);
-        k += 1;
+    for (k, name) in names.iter().enumerate() {
+        let fits = if k < n { *name < known } else { *name == 0 };
+        if !fits {
+            return false;
+        }
     }
-    t
-}
-
-// A piece in use stays within the states, another is none.
-fn piece_fits(used: bool, p: pieces::Piece, states: usize) -> bool
-    requires { states ≤ most_states }
-    ensures { result ≡ cond used (fits_in states p) (is_none p) }
-{
-    if used {
-        pieces::fits(states, p)
-    } else {
-        pieces::is_none(p)
-    }
+    true
 }
 
 // The pieces in use stay within the states, the others are none.
@@ -203,13 +184,18 @@ fn pieces_fit(values: &[u64; pieces::PIECES], n: usize, states: usize) -> bool
     requires { states ≤ most_states }
     ensures { result ≡ every most_pieces (piece_fits states n values.now) }
 {
-    let mut t = true;
-    let mut k = 0;
-    while k <= pieces::TAGS {
-        t = t & piece_fits(k <= n, pieces::piece_at(values, k), states);
-        k += 1;
+    for k in 0..=pieces::TAGS {
+        let p = pieces::piece_at(values, k);
+        let fits = if k <= n {
+            pieces::fits(states, p)
+        } else {
+            pieces::is_none(p)
+        };
+        if !fits {
+            return false;
+        }
     }
-    t
+    true
 }
 
 // Is the struct a summary, with so many names and states?
