@@ -2,14 +2,14 @@
 -- first arm, another by its second; behind the arrays' ends every place is 0. A piece that the test lets through is small, since it adds
 -- no bit to a small number. And a struct that holds a form packs it. Assumes nothing.
 use mathlib.Core.Path.{◌≡◌, refl, sym, ◌∙◌}
-use mathlib.Core.Bool.{Bool, true, false, false≢true, not}
+use mathlib.Core.Bool.{Bool, true, false, false≢true}
 use mathlib.Core.List.{List}
 use mathlib.Core.Logic.{◌↔◌}
 use Prim.Native.Nat.{ℕ, ◌-◌, ◌≤◌, ◌<◌}
 use native.Mathlib.Decide.{dec_lt, dec_le}
 use native.Mathlib.Omega.{arith}
 use lib.ListN.{length, get_or, get_or-eq_default}
-use borrow.Author.Tests.{lt-ltb, le-ltb, le-leb, lt-leb, ltb-true, eqb-true, not-true, not-false}
+use borrow.Author.Tests.{lt-ltb, le-ltb, le-leb, lt-leb, ltb-true, eqb-true}
 use Rattle.hedge.specs.Schema.{most_states}
 use Rattle.pieces.specs.Pieces.{most_tags, most_pieces, pieces_long, zero_piece, piece_at, PieceWithin}
 use Rattle.pieces.proofs.PieceLaws.{piece_past, fits_within, none_is}
@@ -105,20 +105,21 @@ module _ (A q : ℕ) (s : Summary) where
   many_tags_fail h l = never_passed (λ p. omega (arith, p.few))
 
   module _ (names-room : length s.names ≡ most_tags) (few : tag_count s.counts ≤ most_tags) where
-    pub names_fail : (t : Bool) → t ≡ every most_tags (name_fits A (tag_count s.counts) s.names) → not t ≡ true
-        → (false ≡ true) ↔ IsSummary A q s
+    pub names_fail : (t : Bool) → t ≡ every most_tags (name_fits A (tag_count s.counts) s.names) → t ≡ false
+        → (t ≡ true) ↔ IsSummary A q s
     names_fail t e f =
-        never_passed
+        rw f
+        (never_passed
         (λ p.
         let h = (names_pass A (tag_count s.counts) s.names names-room few).1 (p.named, p.unused.names_zero) in
-        false≢true (sym (not-true t f) ∙ e ∙ h))
+        false≢true (sym f ∙ e ∙ h)))
 
     pub summary_pass : length s.values ≡ pieces_long → q ≤ most_states
-        → (t r : Bool) → t ≡ every most_tags (name_fits A (tag_count s.counts) s.names) → not t ≡ false
+        → (t r : Bool) → t ≡ every most_tags (name_fits A (tag_count s.counts) s.names) → t ≡ true
         → r ≡ every most_pieces (piece_fits q (tag_count s.counts) s.values)
         → (r ≡ true) ↔ IsSummary A q s
     summary_pass values-room least t r et e er =
-        let (named, names_zero) = (names_pass A (tag_count s.counts) s.names names-room few).0 (sym et ∙ not-false t e) in
+        let (named, names_zero) = (names_pass A (tag_count s.counts) s.names names-room few).0 (sym et ∙ e) in
         let pieces = pieces_pass q (tag_count s.counts) least s.values values-room few in (
           λ h.
               let (within, values_zero) = pieces.0 (sym er ∙ h) in

@@ -210,13 +210,8 @@ fn is_summary(s: form::Summary, known: u8, states: usize) -> bool
     if pieces::TAGS - c.ends < c.starts {
         return false;
     }
-    let names = s.names;
-    let values = s.values;
     let n = c.ends + c.starts;
-    if !names_fit(&names, n, known) {
-        return false;
-    }
-    pieces_fit(&values, n, states)
+    names_fit(&s.names, n, known) && pieces_fit(&s.values, n, states)
 }
 
 // Joins two summaries under a sound file of these numbers.

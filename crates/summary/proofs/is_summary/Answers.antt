@@ -17,16 +17,16 @@ returns-then-c-gt-TAGS c = search answers
 pub returns-then-c : goal.returns-then-c
 returns-then-c c = search answers
 
-pub returns-then-not-names_fit : goal.returns-then-not-names_fit
-returns-then-not-names_fit c =
+pub returns-else-names_fit : goal.returns-else-names_fit
+returns-else-names_fit c =
     let room : length c.args.s.names ≡ most_tags = search rules in
     let few : tag_count c.args.s.counts ≤ most_tags = omega arith in
-    names_fail _ _ c.args.s room few c.names_fit.result c.names_fit.ensures (rw c.if-not-names_fit.true)
+    names_fail _ _ c.args.s room few c.names_fit.result c.names_fit.ensures c.if-names_fit.false
 
-pub returns : goal.returns
-returns c =
+pub returns-then-names_fit : goal.returns-then-names_fit
+returns-then-names_fit c =
     let names-room : length c.args.s.names ≡ most_tags = search rules in
     let values-room : length c.args.s.values ≡ pieces_long = search rules in
     let few : tag_count c.args.s.counts ≤ most_tags = omega arith in
     summary_pass _ _ c.args.s names-room few values-room c.requires c.names_fit.result c.pieces_fit.result c.names_fit.ensures
-    (rw c.if-not-names_fit.false) c.pieces_fit.ensures
+    c.if-names_fit.true c.pieces_fit.ensures
