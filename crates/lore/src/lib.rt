@@ -117,6 +117,7 @@ fn teach_rules(rules: &[u8], marks: u64, empty: u64, lore: &mut [u64; LORE])
 }
 
 // The number of states, the ending states and the relation of the empty word, before the table.
+// Kept: `as`, since usize and u64 have no From between them, and a TryFrom has a way out that never comes.
 fn put_head(lore: &mut [u64; LORE], states: usize, marks: u64, empty: u64)
     ensures { lore.new ≡ set (set (set lore.old 0 states) 1 marks) 2 empty }
 {
