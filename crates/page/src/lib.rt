@@ -56,8 +56,7 @@ fn tested(lore: &[u64; lore::LORE], s: form::Summary) -> Result<(), PageRefusal>
     ensures { result ≡ tested (ending_of lore.now (form_of s) (last_of s)) }
 {
     let c = s.counts;
-    let values = s.values;
-    let last = pieces::piece_at(&values, c.ends + c.starts);
+    let last = pieces::piece_at(&s.values, c.ends + c.starts);
     form::ending_of(lore, c, last)?;
     Ok(())
 }

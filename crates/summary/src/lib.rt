@@ -230,11 +230,15 @@ fn join_summaries(
     schema::teach(file, shape, &mut lore);
     let mut names = left.names;
     let mut values = left.values;
-    let tags = right.names;
-    let parts = right.values;
-    let c = left.counts;
-    let more = right.counts;
-    let counts = form::then_form(&lore, &mut names, &mut values, c, &tags, &parts, more)?;
+    let counts = form::then_form(
+        &lore,
+        &mut names,
+        &mut values,
+        left.counts,
+        &right.names,
+        &right.values,
+        right.counts,
+    )?;
     Ok(form::Summary {
         counts: counts,
         names: names,
