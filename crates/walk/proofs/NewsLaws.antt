@@ -10,6 +10,7 @@ use native.Mathlib.Decide.{dec_lt}
 use native.Mathlib.Omega.{arith}
 use borrow.Author.Rules.{rules}
 use borrow.Author.Tests.{eq-eqb}
+use Rattle.std.proofs.lemmas.Bool.{or_parts}
 use Rattle.words.specs.Reduced.{Stack}
 use Rattle.numbers.specs.Bits.{bit}
 use Rattle.pieces.specs.declared.Piece.{Piece}
@@ -24,7 +25,6 @@ use Rattle.pairs.specs.declared.Slot.TheVariants.{Absent, Single, Rows}
 use Rattle.pairs.proofs.LoadLaws.{row_long}
 use Rattle.shares.proofs.ShareLaws.{below_next}
 use Rattle.walk.specs.News.{marks_from, news, renews}
-use Rattle.walk.proofs.ValidLaws.{or_false_right}
 
 module _ (t : List ℕ) where
   -- ---- the loop
@@ -75,7 +75,7 @@ module _ (t : List ℕ) where
         | yes h ↦ h
         | no h ↦ absurd
             (false≢true
-            (sym (or_false_right first (bit (news t prev n) (x % 64)) e)
+            (sym (or_parts first (bit (news t prev n) (x % 64)) e).1
             ∙ (rw (row_nonterminal (table_row t k) x s c r) at (news_bit prev n k (omega arith) l))))
       ]
 

@@ -11,7 +11,7 @@ use native.Mathlib.Omega.{arith}
 use lib.ListN.{length}
 use Rattle.words.specs.Reduced.{Stack, tags}
 use Rattle.words.specs.Reader.{Outcome, reduced}
-use Rattle.numbers.proofs.TestLaws.{or_out}
+use Rattle.std.proofs.lemmas.Bool.{or_cases, or_parts}
 use Rattle.pieces.specs.declared.Piece.{Piece}
 use Rattle.pieces.specs.Pieces.{most_tags}
 use Rattle.trees.specs.Events.{Pair}
@@ -25,7 +25,7 @@ use Rattle.pairs.specs.Turns.{invalid_form, after_pair, PairNoted, was_crowded, 
 use Rattle.pairs.specs.declared.Tally.{Tally}
 use Rattle.shares.proofs.ShareLaws.{below_next}
 use Rattle.walk.specs.Walks.{ValidForm, ProperPair, ProperRows, Noted}
-use Rattle.walk.proofs.ValidLaws.{or_false_left, or_false_right, invalid-form, valid_start_form}
+use Rattle.walk.proofs.ValidLaws.{invalid-form, valid_start_form}
 use Rattle.walk.proofs.ProgressLaws.{tally_book, tabled_later, noted_later, Sofar}
 
 -- a row stands among the others exactly where its pair does
@@ -65,7 +65,7 @@ module _ {lore rules : List ℕ} {R Seen : ℕ → Outcome Piece → Type 0} {b 
     seen_next y q (inl v) =
         noted_later
         (record {
-          invalid_stays = or_false_left found.notes.invalid (invalid_form lore p);
+          invalid_stays = λ f. (or_parts found.notes.invalid (invalid_form lore p) f).0;
           deep_stays = λ h. h;
           crowded_stays = stay;
           rows_stay = rows_stay;
@@ -78,7 +78,7 @@ module _ {lore rules : List ℕ} {R Seen : ℕ → Outcome Piece → Type 0} {b 
           reduces = f;
           deep_noted = λ h. absurd (omega arith);
           stands = λ h g. rw e (there g);
-          valid = λ z g. valid_start_form lore p (or_false_right found.notes.invalid (invalid_form lore p) g) (sym e ∙ z);
+          valid = λ z g. valid_start_form lore p (or_parts found.notes.invalid (invalid_form lore p) g).1 (sym e ∙ z);
         }
 
   -- an invalid page before, or this form
@@ -89,7 +89,7 @@ module _ {lore rules : List ℕ} {R Seen : ℕ → Outcome Piece → Type 0} {b 
       (λ z.
       let (x, v) = invalid-form lore p z in
       (p.form, p.last, rw x at is-result, v))
-      (or_out found.notes.invalid f)
+      (or_cases found.notes.invalid _ f)
 
   -- the table stays: the row stands in it, or there is no room
   kept_next : (crowded : Bool) → (crowded ≡ false → found.notes.crowded ≡ false)

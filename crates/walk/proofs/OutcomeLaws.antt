@@ -11,7 +11,7 @@ use Rattle.std.specs.Prelude.{Option, Some, None}
 use Rattle.words.specs.Reduced.{Stack, tags}
 use Rattle.words.specs.Reader.{Outcome, reduced, differ}
 use Rattle.numbers.specs.Bits.{bit}
-use Rattle.numbers.proofs.TestLaws.{or_out}
+use Rattle.std.proofs.lemmas.Bool.{or_cases, or_parts}
 use Rattle.pieces.specs.declared.Piece.{Piece}
 use Rattle.pieces.specs.Pieces.{most_tags}
 use Rattle.worktable.specs.Packed.{table_long}
@@ -21,7 +21,7 @@ use Rattle.pairs.specs.Turns.{FormsNoted, forms_none, forms_other, forms_more, O
 use Rattle.pairs.specs.declared.Tally.{Tally}
 use Rattle.shares.proofs.ShareLaws.{below_next}
 use Rattle.walk.specs.Walks.{ProperPair, Noted}
-use Rattle.walk.proofs.ValidLaws.{or_false_left, or_false_right, deep_invalid}
+use Rattle.walk.proofs.ValidLaws.{deep_invalid}
 use Rattle.walk.proofs.ProgressLaws.{tally_book, noted_later, Sofar, sofar_seen}
 use Rattle.walk.proofs.NotedLaws.{Also, pair_next}
 
@@ -48,7 +48,7 @@ module _ {lore rules : List ℕ} {R Seen : ℕ → Outcome Piece → Type 0} {b 
         happened = record {
           invalid_page = λ f.
               ⊎_elim sofar.happened.invalid_page (λ z. (s, c, rw e at (is-result 0 (omega arith) z), deep_invalid lore s c l))
-              (or_out found.notes.invalid f);
+              (or_cases found.notes.invalid _ f);
           too_deep = λ f. let (x, h, w) = some in (x, s, c, rw e at (is-result x h w), l);
           past_room = sofar.happened.past_room;
         };
@@ -60,7 +60,7 @@ module _ {lore rules : List ℕ} {R Seen : ℕ → Outcome Piece → Type 0} {b 
       noted y q (inl v) =
           noted_later
           (record {
-            invalid_stays = or_false_left found.notes.invalid (bit marks 0);
+            invalid_stays = λ f. (or_parts found.notes.invalid (bit marks 0) f).0;
             deep_stays = λ f. refl;
             crowded_stays = λ f. f;
             rows_stay = λ p w. w;
@@ -73,7 +73,7 @@ module _ {lore rules : List ℕ} {R Seen : ℕ → Outcome Piece → Type 0} {b 
             reduces = d ∙ e;
             deep_noted = λ h. refl;
             stands = λ h. absurd (omega arith);
-            valid = λ z f. absurd (false≢true (sym (or_false_right found.notes.invalid (bit marks 0) f) ∙ (rw z at w)));
+            valid = λ z f. absurd (false≢true (sym (or_parts found.notes.invalid (bit marks 0) f).1 ∙ (rw z at w)));
           }
 
   -- a form of at most 16 tags

@@ -10,7 +10,7 @@ use borrow.Author.Tests.{eqb-true, eq-eqb}
 use Rattle.std.specs.Prelude.{Result, Ok, Err}
 use Rattle.std.specs.Result.{is_err}
 use Rattle.words.specs.Reduced.{Stack, tags}
-use Rattle.numbers.proofs.TestLaws.{and_out}
+use Rattle.std.proofs.lemmas.Bool.{and_parts}
 use Rattle.pieces.specs.declared.Piece.{Piece}
 use Rattle.pieces.specs.Pieces.{most_tags}
 use Rattle.form.specs.Endings.{ending_of}
@@ -19,14 +19,6 @@ use Rattle.form.proofs.EndingLaws.{ending_iff}
 use Rattle.trees.specs.Events.{Pair}
 use Rattle.pairs.specs.Turns.{invalid_form}
 use Rattle.walk.specs.Walks.{ValidForm}
-
-pub or_false_left : (a b : Bool) → (a || b) ≡ false → a ≡ false
-or_false_left false b e = refl
-or_false_left true b e = e
-
-pub or_false_right : (a b : Bool) → (a || b) ≡ false → b ≡ false
-or_false_right false b e = e
-or_false_right true b e = absurd (false≢true (sym e))
 
 page_is : (e : Result Unit Flaw) → is_err e ≡ false → e ≡ Ok tt
 page_is (Ok u) h = refl
@@ -39,7 +31,7 @@ module _ (lore : List ℕ) where
     pub invalid-form : invalid_form lore p ≡ true → (p.of ≡ 0) × (ValidForm lore p.form p.last → ⊥)
     unfolding invalid_form
     invalid-form e =
-        let (x, q) = and_out (eqb p.of 0) e in
+        let (x, q) = and_parts (eqb p.of 0) _ e in
         (eqb-true p.of 0 x, λ v. false≢true (sym (ap is_err v) ∙ q))
 
     pub valid_start_form : invalid_form lore p ≡ false → p.of ≡ 0 → ValidForm lore p.form p.last

@@ -11,6 +11,7 @@ use lib.Dec.{ltb}
 use lib.ListN.{length, get_or}
 use borrow.Author.Tests.{ltb-true, ltb-false}
 use Rattle.std.specs.Prelude.{Some}
+use Rattle.std.proofs.lemmas.Bool.{or_parts}
 use Rattle.words.specs.Reader.{Outcome}
 use Rattle.pieces.specs.declared.Piece.{Piece}
 use Rattle.pieces.specs.Pieces.{pieces}
@@ -21,7 +22,6 @@ use Rattle.shares.proofs.ShareLaws.{nothing_bit, below_next}
 use Rattle.walk.specs.News.{news, renews}
 use Rattle.walk.specs.Walks.{RoundBegins, Noted, Walked}
 use Rattle.walk.specs.declared.Round.{Round}
-use Rattle.walk.proofs.ValidLaws.{or_false_left, or_false_right}
 use Rattle.walk.proofs.SlotLaws.{fits_later, none_old}
 use Rattle.walk.proofs.NewsLaws.{unrenewed_old}
 use Rattle.walk.proofs.PairingLaws.{Pairing, pairing_marked, result_pairing, pairing_result, pairing_old}
@@ -109,8 +109,7 @@ module _ {lore rules t₀ : List ℕ} {round : Round} {fresh : ℕ} {p : Place} 
               inl (inr (refl, inl (omega (arith, all, m.is_left))))
           here false q b c x o m =
               let none = rw (going.begun.fresh_is, rule.left_is, rule.right_is) at q in
-              let left = or_false_left (renews (left_slot rules p.i) (news t₀ round.prev round.rows) round.first) _ none in
-              let right = or_false_right (renews (left_slot rules p.i) (news t₀ round.prev round.rows) round.first) _ none in
+              let (left, right) = or_parts (renews (left_slot rules p.i) (news t₀ round.prev round.rows) round.first) _ none in
               inr (old_noted p.i b c x o m
               (unrenewed_old t₀ (pieces lore).unit round.prev round.rows round.first (left_slot rules p.i) b m.form m.last left
               m.left)
