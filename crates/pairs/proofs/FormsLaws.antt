@@ -59,9 +59,4 @@ module _ (lore : List ℕ) (marks : ℕ) (s : Stack Piece) (c : Piece) (t : List
         let e : x + (64 - x) ≡ 64 = omega arith in
         rw e at (forms_past none (64 - x))
 
-    pub forms_all : x ≤ 64 → 64 ≤ x → FormsNoted lore marks s c t found 64 r t'
-    forms_all h l =
-        let e : x ≡ 64 = omega arith in
-        rw e at before
-
-pub ruleset forms_laws = (pair_room, forms_start, forms_skip, forms_next, forms_end, forms_all, rules)
+pub ruleset forms_laws = (pair_room, forms_start, forms_skip, forms_next, forms_end, rules)

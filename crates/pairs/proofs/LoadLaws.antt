@@ -1,15 +1,14 @@
--- Choices and loading (specs/Turns.antt), in the words in which the functions that deal with them have it, for `search loads`. An empty form, a tag's own form and the form of a row stand in the arrays, and a row
--- of another nonterminal is no choice. Assumes nothing.
+-- Choices and loading (specs/Turns.antt), in the words in which the functions that deal with them have it, for `search loads`. An empty
+-- form, a tag's own form and the form of a row stand in the arrays, and a row of another nonterminal is no choice. Assumes nothing.
 use mathlib.Core.Path.{◌≡◌, refl, sym, ap, subst, ◌∙◌}
 use mathlib.Core.Bool.{Bool, true, false, false≢true}
 use mathlib.Core.List.{List}
-use Prim.Native.Nat.{ℕ, ◌+◌, ◌-◌, ◌*◌, ◌≤◌}
+use Prim.Native.Nat.{ℕ, ◌+◌}
 use native.Mathlib.Omega.{arith}
 use lib.Dec.{eqb}
-use lib.ListN.{length, set, take, drop}
+use lib.ListN.{set}
 use borrow.Author.Rules.{rules}
-use Rattle.std.specs.Prelude.{Option, Some, None}
-use Rattle.std.proofs.lemmas.List.{length-take-le, length-drop}
+use Rattle.std.specs.Prelude.{Some, None}
 use borrow.Author.Tests.{eqb-true, eq-eqb}
 use Rattle.words.specs.Reduced.{Stack}
 use Rattle.words.specs.declared.Tag as class
@@ -23,22 +22,14 @@ use Rattle.form.specs.declared.Summary.{Summary}
 use Rattle.form.proofs.HeldLaws.{stack_none, stack_put_start, stack_put_end}
 use Rattle.form.proofs.TagLaws.{holds_put}
 use Rattle.form.proofs.TurnLaws.{holds_value}
-use Rattle.rows.proofs.TableLaws.{row_part}
-use Rattle.worktable.specs.Packed.{row_width, nonterminal_in, summary_in, RowOf}
+use Rattle.worktable.specs.Packed.{nonterminal_in, summary_in, RowOf}
 use Rattle.worktable.proofs.RowLaws.{row_nonterminal, row_holds, row_form, row_last}
 use Rattle.pairs.specs.Books.{table_row}
-use Rattle.pairs.specs.Turns.{slot_fits, SomePairRow, Choosable, TagForm, FormOf, Loads}
+use Rattle.pairs.specs.Turns.{slot_fits, SomePairRow, TagForm, FormOf, Loads}
 use Rattle.pairs.specs.declared.Slot.{Slot}
 use Rattle.pairs.specs.declared.Slot.TheVariants.{Absent, Single, Rows}
 
 -- ---- a choice that fits
-
-module _ (s : Slot) (k : ℕ) (t : List ℕ) where
-  pub row_within : (x : ℕ) → Choosable t s k → s ≡ Rows x → k * row_width + row_width ≤ length t
-  row_within x c e = (rw e at c).0
-
-  pub row_packs : (x : ℕ) → Choosable t s k → s ≡ Rows x → SomePairRow (table_row t k)
-  row_packs x c e = (rw e at c).1
 
 -- a choice that has a form fits
 row_of_fits : (t : List ℕ) (k x : ℕ) (form : Stack Piece) (last : Piece) → RowOf (table_row t k) x form last
@@ -51,15 +42,6 @@ unfolding slot_fits
 form_fits empty t Absent k form last f = refl
 form_fits empty t (Single a) k form last f = refl
 form_fits empty t (Rows x) k form last f = row_of_fits t k x form last f
-
--- ---- a row, as a part of the table
-
-pub row_is : (t : List ℕ) (k : ℕ) (row : List ℕ) → row ≡ take (k * row_width + row_width - k * row_width) (drop (k * row_width) t)
-    → row ≡ table_row t k
-row_is t k row e = e ∙ row_part row_width (k * row_width) t
-
-pub row_long : (t : List ℕ) (k : ℕ) (row : List ℕ) → k * row_width + row_width ≤ length t → row ≡ table_row t k → length row ≡ row_width
-row_long t k row l e = rw e (length-take-le row_width (drop (k * row_width) t) (omega (arith, length-drop (k * row_width) t)))
 
 -- ---- forms in the arrays
 
@@ -99,14 +81,6 @@ module _ (names values : List ℕ) (zeros : Holds (summary_of no_tags names valu
           (rw (d, e, both_is, form, first_piece, stack_none 0 names first), rw d second_piece),
         )
 
-module _ (empty : Piece) (t : List ℕ) (s : Slot) (k : ℕ) (names values : List ℕ) (r : Option Counts) where
-  pub loads_single : (tag : class.Tag) → s ≡ Single tag → Loads (TagForm empty tag) r names values
-      → Loads (FormOf empty t s k) r names values
-  loads_single tag e w = rw e w
-
-  pub loads_rows : (x : ℕ) → s ≡ Rows x → Loads (RowOf (table_row t k) x) r names values → Loads (FormOf empty t s k) r names values
-  loads_rows x e w = rw e w
-
 module _ (t : List ℕ) (k x : ℕ) (fits : Bool) (told : fits ≡ eqb (nonterminal_in (table_row t k)) x) (packs : SomePairRow (table_row t k)) where
   pub loads_row : (c : Counts) (names values read : List ℕ) → fits ≡ true → read ≡ table_row t k
       → summary_of c names values ≡ summary_in read → Loads (RowOf (table_row t k) x) (Some c) names values
@@ -126,15 +100,9 @@ module _ (t : List ℕ) (k x : ℕ) (fits : Bool) (told : fits ≡ eqb (nontermi
       false≢true (sym f ∙ told ∙ row_of_fits t k x form last r)
 
 pub ruleset loads = (
-  row_within,
-  row_packs,
-  row_is,
-  row_long,
   loads_end,
   loads_start,
   loads_absent,
-  loads_single,
-  loads_rows,
   loads_row,
   loads_nothing,
   rules,

@@ -1,15 +1,12 @@
--- What is noted of a form (specs/Turns.antt), in the words in which `invalid_form` and `note_form` have it (`search notes`): only a form
--- of the start can be an invalid page, and its ending says so; the row of a form in the arrays is not looked for where one found no room
--- before, stands among the others, finds no room, or goes behind them. The row is as wide as the table's rows. Assumes nothing.
+-- What is noted of a form (specs/Turns.antt), in the words in which `invalid_form` and `note_form` have it (`search notes`): only a form of
+-- the start can be an invalid page, and its ending says so; the row of a form is not looked for where one found no room before, stands among
+-- the others, finds no room, or goes behind them. Assumes nothing.
 use mathlib.Core.Path.{◌≡◌, sym, ap, subst, ◌∙◌}
 use mathlib.Core.Bool.{Bool, true, false, ◌||◌}
 use mathlib.Core.List.{List, [], ◌∷◌, ◌++◌}
-use Prim.Native.Nat.{ℕ, ◌+◌, ◌*◌, ◌≤◌, ◌<◌}
-use native.Mathlib.Omega.{arith}
+use Prim.Native.Nat.{ℕ, ◌+◌, ◌≤◌, ◌<◌}
 use lib.Dec.{eqb}
-use lib.ListN.{length, get_or}
-use mir.Syntax.{w8}
-use mir.Val.{Fits}
+use lib.ListN.{length}
 use borrow.Author.Rules.{rules}
 use borrow.Author.Tests.{eq-eqb, ne_eqb}
 use Rattle.std.specs.Prelude.{Result}
@@ -17,15 +14,14 @@ use Rattle.std.specs.Result.{is_err}
 use Rattle.words.specs.Reduced.{Stack, tags}
 use Rattle.pieces.specs.declared.Piece.{Piece}
 use Rattle.pieces.specs.Pieces.{piece_at}
-use Rattle.form.specs.Held.{tag_count, summary_of, form_of, last_of, Holds}
+use Rattle.form.specs.Held.{tag_count, summary_of, form_of, last_of}
 use Rattle.form.specs.Endings.{ending_of}
 use Rattle.form.specs.declared.Counts.{Counts}
 use Rattle.form.specs.declared.Flaw.{Flaw}
 use Rattle.form.proofs.HeldLaws.{tags_held}
 use Rattle.trees.specs.Events.{Pair}
 use Rattle.rows.specs.Tables.{rows_of, table_of, among}
-use Rattle.worktable.specs.Packed.{row_width, most_images, table_long, packed, RowOf}
-use Rattle.worktable.proofs.PackedLaws.{packed_row}
+use Rattle.worktable.specs.Packed.{row_width, most_images, RowOf}
 use Rattle.worktable.proofs.RowLaws.{row_length}
 use Rattle.pairs.specs.Turns.{invalid_form, PairNoted, was_crowded, stands, finds_no_room, goes_behind}
 use Rattle.pairs.specs.declared.Tally.{Tally}
@@ -44,23 +40,6 @@ module _ (lore : List ℕ) (x : ℕ) (c : Counts) (values : List ℕ) where
       → eqb x 0 ≡ invalid_form lore (record { of = x; form = form; last = piece_at values (tag_count c) })
   unfolding invalid_form
   other_valid n form count = rw (ne_eqb x 0 n)
-
--- ---- the row of a form in the arrays
-
-pub form_row : (row names values : List ℕ) (x : ℕ) (c : Counts) → row ≡ packed x (summary_of c names values)
-    → Holds (summary_of c names values) → Fits w8 x → ((k : ℕ) → Fits w8 (get_or names k 0))
-    → RowOf row x (form_of (summary_of c names values)) (last_of (summary_of c names values))
-form_row row names values x c row_is holds small bytes =
-    rw row_is (packed_row x (summary_of c names values) (λ k. omega (arith, (bytes k).fits)) (omega (arith, small.fits)) holds)
-
--- ---- room for rows
-
-module _ (m w l : ℕ) (wide : w ≡ row_width) (long : table_long ≤ l) where
-  pub rows_room : m ≤ most_images → m * w ≤ l
-  rows_room h = rw wide (omega arith)
-
-  pub row_room : m < most_images → m * w + w ≤ l
-  row_room h = rw wide (omega arith)
 
 -- ---- a form
 
@@ -110,4 +89,4 @@ module _ (lore names values : List ℕ) (x : ℕ) (c : Counts) (t : List ℕ) (f
         (goes_behind row t' packs (found_among false f) l
         (a ∙ ap (λ (w : ℕ). table_of (rows_of w found.rows t ++ (row ∷ [])) t) wide))
 
-pub ruleset notes = (form_row, rows_room, row_room, note_crowded, note_stands, note_no_room, note_behind, rules)
+pub ruleset notes = (note_crowded, note_stands, note_no_room, note_behind, rules)

@@ -41,6 +41,7 @@ pub struct Notes {
 }
 
 // So many rows, and these notes.
+// Kept: the number of rows stands here, beside the table, for a caller lends the table as a slice of the worktable's fixed length.
 #[derive(Clone, Copy, Debug, PartialEq, Eq)]
 pub struct Tally {
     pub rows: usize,

@@ -195,6 +195,7 @@ pub fn answer(r: CheckReply) -> u32
     }
 }
 
+// Kept: a usize becomes a u64 by `as`, for no From leads from the one to the other.
 pub fn number(r: CheckReply) -> u64
     ensures { result ≡ number r }
 {

@@ -22,7 +22,6 @@ use Rattle.pairs.specs.Books.{book_of, table_row}
 use Rattle.pairs.specs.Slots.{Choice, new_from}
 use Rattle.pairs.specs.declared.Slot.{Slot}
 use Rattle.pairs.specs.declared.Slot.TheVariants.{Absent, Single, Rows}
-use Rattle.pairs.proofs.LoadLaws.{row_long}
 use Rattle.shares.proofs.ShareLaws.{below_next}
 use Rattle.walk.specs.News.{marks_from, news, renews}
 
@@ -79,4 +78,4 @@ module _ (t : List ℕ) where
             ∙ (rw (row_nonterminal (table_row t k) x s c r) at (news_bit prev n k (omega arith) l))))
       ]
 
-pub ruleset news_laws = (news_none, news_next, news_end, row_long, rules)
+pub ruleset news_laws = (news_none, news_next, news_end, rules)

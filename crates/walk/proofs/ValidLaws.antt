@@ -1,7 +1,7 @@
 -- The test of a page's form (pairs/specs/Turns.antt) and what it says: a form of the start that fails it is not valid, one that passes it is,
 -- and a form of more than 16 tags has tags, so that it is not valid. By cases on the ending. Assumes nothing.
 use mathlib.Core.Path.{◌≡◌, refl, sym, ap, ◌∙◌}
-use mathlib.Core.Bool.{Bool, true, false, ◌||◌, false≢true}
+use mathlib.Core.Bool.{true, false, false≢true}
 use mathlib.Core.List.{List}
 use Prim.Native.Nat.{ℕ, ◌<◌}
 use native.Mathlib.Omega.{arith}

@@ -22,6 +22,3 @@ loop-x-preserved c =
           }
       | else-rest-eq1 w ↦ rw (w.table-is, w.tally-is) (search forms_laws)
     ]
-
-pub returns : goal.returns
-returns c = search forms_laws

@@ -5,9 +5,6 @@ use Rattle.walk.proofs.news.Goals as goal
 pub loop-k-init : goal.loop-k-init
 loop-k-init c = search news_laws
 
-pub nonterminal-x-requires : goal.nonterminal-x-requires
-nonterminal-x-requires c = search news_laws
-
 pub loop-k-preserved : goal.loop-k-preserved
 loop-k-preserved c = search news_laws
 
