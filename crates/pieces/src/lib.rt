@@ -36,7 +36,7 @@ impl Piece {
 }
 
 // Piece k of a form.
-// Kept: two numbers to a piece in one flat array, which is how a summary's row lends them.
+// Kept: two numbers to a piece in one flat array, so that what lies behind its end reads as no piece and no law needs one bound more.
 #[tactic(auto, unfolding(crate::specs::Pieces::piece_at))]
 pub fn piece_at(pieces: &[u64; PIECES], k: usize) -> Piece
     requires { k ≤ most_tags }
