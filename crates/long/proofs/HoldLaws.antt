@@ -15,8 +15,7 @@ use Rattle.numbers.proofs.TestLaws.{ext_true}
 use Rattle.std.proofs.lemmas.Bool.{and_parts, or_cases}
 use Rattle.entries.specs.Tests.{first_fault}
 use Rattle.entries.specs.Entries.{rule_symbols, is_symbol, symbol_holds, symbol_tests, field_tests}
-use Rattle.std.specs.Prelude.{Result, Ok, Err}
-use Rattle.entries.specs.Tests.{Tested, fault_at}
+use Rattle.std.specs.Prelude.{Ok}
 use Rattle.entries.specs.declared.Body.TheVariants.{Templates}
 use Rattle.template.specs.Layout.{name_count, nonterminals, rule_count, template_rules_of}
 use Rattle.template.proofs.SoundLaws.{SoundFileOf}
