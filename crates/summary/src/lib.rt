@@ -11,7 +11,7 @@ ghost use Rattle.reader.specs.Reads.{Reads};
 ghost use Rattle.summary.specs.declared.FragmentRefusal.TheVariants as fragment;
 ghost use Rattle.summary.specs.declared.JoinRefusal.TheVariants as joined;
 ghost use Rattle.summary.specs.declared.DepthRefusal.TheVariants as depth;
-ghost use Rattle.summary.specs.Packing.{zeros, IsSummary, every, name_fits, piece_fits};
+ghost use Rattle.summary.specs.Packing.{IsSummary, every, name_fits, piece_fits};
 ghost use Rattle.summary.specs.Replies.{stopped, clashed, reply_of};
 ghost use Rattle.summary.specs.Fragments.{FragmentSays, FragmentFinds};
 ghost use Rattle.summary.specs.Joins.{SummaryUnder, JoinSays, DepthSays};
@@ -101,15 +101,11 @@ impl From<form::Clash> for JoinRefusal {
 }
 
 // The summary of a refusal.
-fn zeros() -> form::Summary
-    ensures { result ≡ zeros }
-{
-    form::Summary {
-        counts: form::counted(0, 0),
-        names: [0u8; pieces::TAGS],
-        values: [0u64; pieces::PIECES],
-    }
-}
+const ZEROS: form::Summary = form::Summary {
+    counts: form::Counts { ends: 0, starts: 0 },
+    names: [0u8; pieces::TAGS],
+    values: [0u64; pieces::PIECES],
+};
 
 // What was found, as a reply.
 fn reply_of<E>(found: Result<form::Summary, E>) -> Reply<E>
@@ -122,7 +118,7 @@ fn reply_of<E>(found: Result<form::Summary, E>) -> Reply<E>
         },
         Err(refusal) => Reply {
             answer: Err(refusal),
-            summary: zeros(),
+            summary: ZEROS,
         },
     }
 }
