@@ -2,7 +2,7 @@
 -- that meets a start of its own name, or of another. What the arrays hold follows from HeldLaws, what the tag makes of it from the
 -- equations of a step and of the limit in words. The counts and the pieces that a function is
 -- told are variables, with equations. Assumes nothing.
-use mathlib.Core.Path.{◌≡◌, refl, sym, ap₂, ◌∙◌}
+use mathlib.Core.Path.{◌≡◌, refl, sym, ap, ap₂, ◌∙◌}
 use mathlib.Core.Bool.{Bool, true, false, ◌&&◌}
 use mathlib.Core.List.{List}
 use Prim.Native.Nat.{ℕ, suc, ◌+◌, ◌-◌, ◌≤◌, ◌<◌}
@@ -13,14 +13,14 @@ use borrow.Author.Rules.{rules}
 use Rattle.std.specs.Prelude.{Result, Ok, Err}
 use Rattle.words.specs.Tags.{Tag, start, end}
 use Rattle.words.specs.Reduced.{push, EndsFirst, tags}
-use Rattle.words.specs.Reader.{reduced, fits, limit}
+use Rattle.words.specs.Reader.{reduced, fits, limit, then_value_within}
 use Rattle.words.proofs.StepLaws.{step_push, step_same, step_other}
 use Rattle.words.proofs.LimitLaws.{limit_in, limit_out, limit_differ}
 use Rattle.pieces.specs.declared.Piece.{Piece}
 use Rattle.pieces.specs.Pieces.{most_tags, pieces_long, zero_piece, piece_at, put_piece, pieces, Counted}
 use Rattle.pieces.proofs.PieceLaws.{piece_same, put_length, put_counted, none_counted, counted_compose}
 use Rattle.form.specs.Held.{tag_of, stack_of, tag_count, summary_of, form_of, last_of, Holds}
-use Rattle.form.specs.Steps.{Stepped, after_tag}
+use Rattle.form.specs.Steps.{held, outcome, Stepped, after_tag}
 use Rattle.form.specs.declared.Counts.{Counts}
 use Rattle.form.specs.declared.Summary.{Summary}
 use Rattle.form.specs.declared.Clash.{Clash}
@@ -204,6 +204,29 @@ module _ (lore : List ℕ) (s : Summary) where
 
       pub end_meets : (v : Piece) → v ≡ whole → values ≡ taken v → Stepped (Ok d) names values (after_tag lore s (end name))
       end_meets v r q = rw (q, r) end_taken
+
+      -- and a balanced word behind it
+      held_taken : (x : Piece) → held (summary_of d (set s.names (tag_count s.counts - 1) 0) (taken x))
+          ≡ fits (stack_of s.counts.ends s.names s.values (tag_count s.counts - 1)) x
+      held_taken x =
+          let n = tag_count s.counts in
+          let i = h.room in
+          rw (one_less, e)
+          (ap₂ fits (stack_take s.counts.ends n (n - 1) 0 x zero_piece s.names s.values (omega arith))
+          (value_taken n (n - 1) x zero_piece s.values h.values_long (omega arith)))
+
+      pub end_cancels : (v u : Piece) → u ≡ (pieces lore).compose whole v → values ≡ taken u
+          → Stepped (Ok d) names values (then_value_within (pieces lore) (after_tag lore s (end name)) v)
+      unfolding outcome then_value_within
+      end_cancels v u r q =
+          let n = tag_count s.counts in
+          let i = h.room in
+          let told = rw p at end_taken.says in
+          rw (p, q, r)
+          (stepped_held d (set s.names (n - 1) 0) (taken ((pieces lore).compose whole v)) _
+          (holds_take s d (n - 1) ((pieces lore).compose whole v) (sym one_less) (omega arith) h (counted_compose lore whole v))
+          (held_taken ((pieces lore).compose whole v)
+          ∙ ap (λ o. then_value_within (pieces lore) o v) (sym (held_taken whole) ∙ told)))
 
     pub end_met : (closes : Bool) (r : Result Counts Clash) → (closes && ltb 0 s.counts.starts) ≡ true
         → Stepped r names values (after_tag lore s (end name)) → Stepped r names values (after_tag lore s (tag_of closes name))

@@ -1,14 +1,16 @@
 -- A form of each marked nonterminal (specs/Turns.antt), in the words in which `note_forms` has it, for `search forms_laws`: none is noted
 -- before 0, one that is not marked is passed over, one that is marked is noted, and a form leaves at most 256 rows. Where the marks moved
--- down by x are 0, nothing from x on is marked. Assumes nothing.
-use mathlib.Core.Path.{◌≡◌}
+-- down by x are 0, nothing from x on is marked; where they are not, x is a nonterminal (`marks_left`). Assumes nothing.
+use mathlib.Core.Path.{◌≡◌, ◌∙◌}
 use mathlib.Core.Bool.{false}
 use mathlib.Core.List.{List}
-use Prim.Native.Nat.{ℕ, zero, suc, ◌+◌, ◌-◌, ◌/◌, ◌%◌, ◌^◌, ◌≤◌}
-use native.Mathlib.Nat.{add-zero, add-suc, zero-div}
+use Prim.Native.Nat.{ℕ, zero, suc, ◌+◌, ◌-◌, ◌/◌, ◌%◌, ◌^◌, ◌≤◌, ◌<◌}
+use native.Mathlib.Nat.{add-zero, add-suc, zero-div, div-eq_of_lt, lt_of_lt_of_le, lt_of_not-le}
 use native.Mathlib.Omega.{arith}
 use native.Mathlib.Numerals.{add-one}
-use lib.Pow.{shr-shr}
+use lib.Pow.{pow_mono, shr-shr}
+use mir.Syntax.{w64}
+use mir.Val.{Fits}
 use borrow.Author.Rules.{rules}
 use borrow.Author.Tests.{eq-eqb, ne_eqb}
 use Rattle.numbers.specs.Bits.{bit}
@@ -29,6 +31,17 @@ pair_room lore p t found r t' h (was_crowded f) = h
 pair_room lore p t found r t' h (stands row q f) = h
 pair_room lore p t found r t' h (finds_no_room row q f l) = h
 pair_room lore p t found r t' h (goes_behind row u q f l a) = omega arith
+
+-- ---- the marks, moved down by x: as long as one is left, x is a nonterminal
+
+module _ (marks x rest : ℕ) (moved : rest ≡ marks / 2 ^ x) where
+  pub marks_left : Fits w64 marks → 0 < rest → x + 1 ≤ 64
+  marks_left small some =
+      rw add-one
+      (lt_of_not-le
+      (λ l.
+      let none : rest ≡ 0 = moved ∙ div-eq_of_lt (lt_of_lt_of_le small.fits (pow_mono l)) in
+      omega arith))
 
 -- ---- none, next, end
 
