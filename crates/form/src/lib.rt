@@ -22,6 +22,7 @@ pub struct Counts {
 
 // A reduced form by value: the numbers of its unmatched ends and starts, the names of the tags in their order, and the piece before each
 // tag and after the last.
+// Kept: arrays of fixed size with the counts beside them, which is the form of a summary in Rules, section 6.
 #[derive(Clone, Copy)]
 pub struct Summary {
     pub counts: Counts,

@@ -162,6 +162,7 @@ pub fn fragment(file: &[u8], bytes: &[u8]) -> FragmentReply
 }
 
 // The names in use are below the number of names, the others 0.
+// Kept: a loop of its own beside that of `pieces_fit`, since one loop over a closure for the test of a place is no shorter.
 fn names_fit(names: &[u8], n: usize, known: u8) -> bool
     requires { length names.now ≡ most_tags }
     ensures { result ≡ every most_tags (name_fits known n names.now) }
@@ -268,6 +269,7 @@ pub fn join(file: &[u8], left: form::Summary, right: form::Summary) -> JoinReply
 }
 
 // Starts minus ends.
+// Kept: `as`, since both are at most 16, and a conversion that can fail would ask for an answer that cannot come.
 fn difference(starts: usize, ends: usize) -> i32
     requires { ends + starts ≤ most_tags }
     ensures { result ≡ pos starts -ℤ pos ends }
@@ -300,6 +302,7 @@ pub fn fragment_answer(a: Result<(), FragmentRefusal>) -> u32
     }
 }
 
+// Kept: `as u64` from a place, since there is no `u64::from(usize)`.
 pub fn fragment_number(a: Result<(), FragmentRefusal>) -> u64
     ensures { result ≡ fragment_number a }
 {
