@@ -1,11 +1,12 @@
 -- Laying a file down in lent bytes: bytes over the front of a list, and a part that runs to the end and comes
 -- back. A file is its head over the front, then each body over the front of the part behind. Assumes nothing.
 use mathlib.Core.Path.{◌≡◌, refl, ap, ◌∙◌, sym}
-use mathlib.Core.List.{List, ◌++◌, append_assoc, append-nil}
-use Prim.Native.Nat.{ℕ, ◌+◌, ◌-◌, ◌*◌, ◌/◌, ◌≤◌}
+use mathlib.Core.List.{List, [], ◌∷◌, ◌++◌, append_assoc, append-nil}
+use Prim.Native.Nat.{ℕ, ◌+◌, ◌-◌, ◌*◌, ◌/◌, ◌%◌, ◌≤◌, ◌<◌}
 use native.Mathlib.Omega.{arith}
 use lib.ListN.{length, drop, take, length-append, length-drop, drop_of_length-le}
 use lib.Seq.{take_all, take_at, drop_at, drop-drop, sets, sets-eq}
+use borrow.Rule.Slice.PartMut.{put_mid}
 use Rattle.template.specs.Layout.{first_body}
 use Rattle.template.specs.declared.Shape.{Shape}
 use Rattle.save.specs.Files.{numbers_of, half_bytes, head_of, file_of, head_for, file_for, over, Counted}
@@ -33,6 +34,16 @@ over_more done body out out₁ part at a e f =
     f ∙ ap (over body) (tail_is at out₁ ∙ g) ∙ ap (λ (r : List ℕ). body ++ r) (drop-drop (length body) (length done) out) in
     tail_back at out₁ part
     ∙ rw (k, p, length-append done body) (sym (append_assoc done body (drop (length done + length body) out)))
+
+-- ---- two bytes
+
+pub half_laid : (at k n : ℕ) (out bytes : List ℕ) → at + 2 ≤ length out → k ≡ 2 → n < 65536 → bytes ≡ n % 256 ∷ n / 256 % 256 ∷ []
+    → put_mid at k out bytes ≡ sets out at (half_bytes n)
+half_laid at k n out bytes h two few are =
+    let high : n / 256 % 256 ≡ n / 256 = omega arith in
+    rw (two, are, high)
+    (sym (sets-eq (half_bytes n) out at h ∙ append_assoc (take at out) (half_bytes n) (drop (at + 2) out)
+    ∙ ap (λ (r : List ℕ). take at out ++ (half_bytes n ++ r)) (sym (drop-drop 2 at out))))
 
 -- ---- the head
 
