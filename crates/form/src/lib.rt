@@ -6,7 +6,6 @@
 ghost use Rattle.std.specs.Prelude.{◌≡◌, ◌+◌, ◌-◌, ◌<◌, ◌≤◌, true, set};
 ghost use Rattle.words.specs.Reduced.{Stack, tags};
 ghost use Rattle.hedge.specs.Schema.{most_states};
-ghost use Rattle.lore.specs.Lore.{IsLore};
 ghost use Rattle.pieces.specs.declared.Piece.{Piece};
 ghost use Rattle.pieces.specs.Pieces.{most_tags, zero_piece, piece_at, put_piece, pieces};
 ghost use Rattle.form.specs.Held.{tag_of, tag_count, summary_of, Holds};
@@ -88,13 +87,12 @@ fn take_tag(
 // The piece of a word and, behind it, the element of this name around another word.
 #[inline(always)]
 fn closed(
-    lore: &[u64; lore::LORE],
+    lore: &lore::Lore,
     name: u8,
     before: pieces::Piece,
     inner: pieces::Piece,
 ) -> pieces::Piece
-    requires { IsLore most_states lore.now }
-    ensures { result ≡ (pieces lore.now).compose before ((pieces lore.now).wrap name inner) }
+    ensures { result ≡ (pieces lore.now.entries).compose before ((pieces lore.now.entries).wrap name inner) }
 {
     let element = pieces::element(lore, name, inner);
     pieces::follow(lore, before, element)
@@ -103,17 +101,16 @@ fn closed(
 // An end tag where starts stand unmatched: it meets the innermost.
 #[inline(always)]
 fn meet(
-    lore: &[u64; lore::LORE],
+    lore: &lore::Lore,
     names: &mut [u8; pieces::TAGS],
     values: &mut [u64; pieces::PIECES],
     c: Counts,
     name: u8,
 ) -> Result<Counts, Clash>
-    requires lore { IsLore most_states lore.now }
     requires holds { Holds (summary_of c names.old values.old) }
     requires starts_nonzero { 0 < c.starts }
     ensures { Stepped result names.new values.new
-        (after_tag lore.now (summary_of c names.old values.old) (tag_of true name)) }
+        (after_tag lore.now.entries (summary_of c names.old values.old) (tag_of true name)) }
 {
     let n = c.ends + c.starts;
     let open = names[n - 1];
@@ -133,17 +130,16 @@ fn meet(
 // One tag more. It stands in its callers' loops: reading, which passes `closes` as a constant, is faster by that.
 #[inline(always)]
 pub fn then_tag(
-    lore: &[u64; lore::LORE],
+    lore: &lore::Lore,
     names: &mut [u8; pieces::TAGS],
     values: &mut [u64; pieces::PIECES],
     c: Counts,
     closes: bool,
     name: u8,
 ) -> Result<Counts, Clash>
-    requires lore { IsLore most_states lore.now }
     requires holds { Holds (summary_of c names.old values.old) }
     ensures { Stepped result names.new values.new
-        (after_tag lore.now (summary_of c names.old values.old) (tag_of closes name)) }
+        (after_tag lore.now.entries (summary_of c names.old values.old) (tag_of closes name)) }
 {
     let n = c.ends + c.starts;
     if closes & (0 < c.starts) {
@@ -161,15 +157,14 @@ pub fn then_tag(
 
 // A balanced word of this piece more, behind n tags.
 fn add_value(
-    lore: &[u64; lore::LORE],
+    lore: &lore::Lore,
     values: &mut [u64; pieces::PIECES],
     n: usize,
     value: pieces::Piece,
 )
-    requires lore { IsLore most_states lore.now }
     requires n_le_most_tags { n ≤ most_tags }
     ensures { values.new
-        ≡ put_piece values.old n ((pieces lore.now).compose (piece_at values.old n) value) }
+        ≡ put_piece values.old n ((pieces lore.now.entries).compose (piece_at values.old n) value) }
 {
     let before = pieces::piece_at(values, n);
     let both = pieces::follow(lore, before, value);
@@ -179,7 +174,7 @@ fn add_value(
 // A whole form more, whose tags and pieces stand in arrays of its own. Its first end meets the start that was opened last, its next end
 // the one before that, from the seam outward (Rules, section 7).
 pub fn then_form(
-    lore: &[u64; lore::LORE],
+    lore: &lore::Lore,
     names: &mut [u8; pieces::TAGS],
     values: &mut [u64; pieces::PIECES],
     c: Counts,
@@ -187,11 +182,10 @@ pub fn then_form(
     parts: &[u64; pieces::PIECES],
     more: Counts,
 ) -> Result<Counts, Clash>
-    requires lore { IsLore most_states lore.now }
     requires holds { Holds (summary_of c names.old values.old) }
     requires more_bound { tag_count more ≤ most_tags }
     ensures { Stepped result names.new values.new
-        (after_form lore.now (summary_of c names.old values.old)
+        (after_form lore.now.entries (summary_of c names.old values.old)
         (summary_of more tags.now parts.now)) }
 {
     add_value(lore, values, c.ends + c.starts, pieces::piece_at(parts, 0));
@@ -222,9 +216,9 @@ fn balance_of(c: Counts, last: pieces::Piece) -> Option<pieces::Piece>
 }
 
 // The two tests at a page's end, on a form with so many tags and this piece after them.
-pub fn ending_of(lore: &[u64; lore::LORE], c: Counts, last: pieces::Piece) -> Result<(), Flaw>
+pub fn ending_of(lore: &lore::Lore, c: Counts, last: pieces::Piece) -> Result<(), Flaw>
     requires { tag_count c ≤ most_tags }
-    ensures { (form : Stack Piece) → tags form ≡ tag_count c → result ≡ ending_of lore.now form last }
+    ensures { (form : Stack Piece) → tags form ≡ tag_count c → result ≡ ending_of lore.now.entries form last }
 {
     let whole = balance_of(c, last).ok_or(Flaw::Unmatched)?;
     if pieces::accepts(lore, whole) {

@@ -4,7 +4,7 @@
 -- gets the rule's pair exactly if its test passes); past the most names the list has ended, and the join is 0. Assumes nothing.
 use mathlib.Core.Path.{◌≡◌, refl, sym, ap, ap₂, ◌∙◌}
 use mathlib.Core.Bool.{Bool, true, false, ◌&&◌, cond}
-use mathlib.Core.List.{List}
+use mathlib.Core.List.{List, []}
 use Prim.Native.Nat.{ℕ, zero, suc, ◌+◌, ◌*◌, ◌/◌, ◌%◌, ◌^◌, ◌≤◌, ◌<◌}
 use native.Mathlib.Numerals.{add-one}
 use native.Mathlib.Omega.{arith}
@@ -22,13 +22,13 @@ use Rattle.numbers.specs.Bits.{any, number}
 use Rattle.numbers.specs.Fields.{field}
 use Rattle.words.specs.Tags.{most_names}
 use Rattle.hedge.specs.Schema.{most_states, RulesBelow, EndsBelow}
-use Rattle.hedge.specs.Operations.{one_pair, relation}
+use Rattle.hedge.specs.Operations.{one_pair, relation, unit, same, lowest}
 use Rattle.numbers.proofs.TestLaws.{ext_true}
 use Rattle.numbers.proofs.BitLaws.{number_lt, number_ext, number_none, number_or, bit_number, bit_pow}
 use Rattle.hedge.proofs.RelationLaws.{relation_cong, relation_none, relation_one, relation_or}
-use Rattle.lore.specs.Lore.{table_from, lore_long, marked, reads, outer, leaf_of, place_of, zeros, NamesBelow, Masks, Leaves, IsLore}
-use Rattle.lore.specs.Lore.{ending_bits, empty_in, meets, met_entry, joined, taught_wrap, taught_accepts}
-use Rattle.lore.proofs.TaughtLaws.{unnamed_entry, lore_leaf}
+use Rattle.lore.specs.Lore.{table_from, lore_long, marked, reads, outer, leaf_of, place_of, zeros, NamesBelow, Masks, Leaves, Known}
+use Rattle.lore.proofs.TaughtLaws.{known_lore}
+use Rattle.lore.specs.Lore.{Taught, ending_bits, empty_in, meets, met_entry, joined, taught_wrap, taught_accepts}
 
 -- ---- the ending states as bits
 
@@ -253,36 +253,43 @@ module _ (K a r y e p : ℕ) (lore : List ℕ) (b : Bool) (eb : b ≡ meets K r 
   unfolding met_entry
   entry_unmet f = rw (← ee, ← eb, f) (sym (or_zero_r p))
 
--- past the names no entry is there, and the join is empty
-unnamed_part : (K : ℕ) (lore : List ℕ) (a r y : ℕ) → length lore ≡ lore_long K → most_names ≤ a → met_entry K lore a r y ≡ 0
-unfolding met_entry
-unnamed_part K lore a r y long h = rw (unnamed_entry K lore a y long h) (none (meets K r (ending_bits lore) y))
-  where
-    none : (b : Bool) → ◌≡◌ {A = ℕ} (cond b 0 0) 0
-    none true = refl
-    none false = refl
+-- past the names nothing is there; the leaf
+pub unnamed_is : (a r : ℕ) (lore : List ℕ) → Known most_states lore → most_names ≤ a → 0 ≡ taught_wrap most_states lore a r
+unnamed_is a r lore k h = sym (k.unnamed a r h)
 
-unnamed_joined : (K : ℕ) (lore : List ℕ) (a r n : ℕ) → length lore ≡ lore_long K → most_names ≤ a → joined K lore a r n ≡ 0
-unfolding joined
-unnamed_joined K lore a r zero long h = refl
-unnamed_joined K lore a r (suc y) long h = rw (unnamed_joined K lore a r y long h, unnamed_part K lore a r y long h)
-
-pub unnamed_wrap : (K a r : ℕ) (lore : List ℕ) → IsLore K lore → most_names ≤ a → 0 ≡ taught_wrap K lore a r
-unfolding taught_wrap
-unnamed_wrap K a r lore l h = sym (unnamed_joined K lore a r K l.taught.masks.long h)
-
--- the leaf
-pub leaf_wrap : (a r k : ℕ) (lore : List ℕ) → IsLore most_states lore → a < most_names
+pub leaf_wrap : (a r k : ℕ) (lore : List ℕ) → Known most_states lore → a < most_names
     → r ≡ empty_in lore
     → k ≡ leaf_of a
     → get_or lore k 0 ≡ taught_wrap most_states lore a r
-leaf_wrap a r k lore l h er ek = rw (ek, er) (lore_leaf lore l a h)
+leaf_wrap a r k lore l h er ek = rw (ek, er) (l.leaves a h)
 
 -- ---- acceptance, in the words of the code
 
 pub accepts_is : (K r e : ℕ) (lore : List ℕ) (t : Bool) → t ≡ meets K r e 0 → e ≡ ending_bits lore → t ≡ taught_accepts K lore r
 unfolding taught_accepts
 accepts_is K r e lore t et ee = rw (et, ee)
+
+-- ---- before it is taught
+
+-- zeros are the lore of no state and no rule
+no_state : ◌≡◌ {A = ℕ} 0 (unit most_states 0)
+unfolding unit same relation lowest number
+no_state = refl
+
+untaught : Taught most_states 0 [] [] (zeros (lore_long most_states))
+untaught =
+    record {
+      states = refl;
+      endings = marked_none most_states [];
+      empty = no_state;
+      masks = masks_none most_states [] (zeros (lore_long most_states)) refl;
+      leaves = leaves_none most_states [] _ _ (zeros (lore_long most_states)) refl;
+    }
+
+pub untaught_known : Known most_states (zeros (lore_long most_states))
+untaught_known =
+    known_lore 0 [] [] (zeros (lore_long most_states)) (omega arith) (λ i h. absurd (omega arith)) (λ i h. absurd (omega arith))
+    (λ j h. absurd (omega arith)) untaught
 
 pub ruleset lores = (
   marked_none,
@@ -300,7 +307,7 @@ pub ruleset lores = (
   joined_end,
   entry_met,
   entry_unmet,
-  unnamed_wrap,
+  unnamed_is,
   leaf_wrap,
   accepts_is,
   rules,

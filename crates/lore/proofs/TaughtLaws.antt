@@ -3,7 +3,7 @@
 -- lore's binoid is the schema's, and a lore that a call is given has its laws. Assumes nothing.
 use mathlib.Core.Path.{◌≡◌, refl, sym, ap, ◌∙◌}
 use mathlib.Core.Bool.{Bool, true, false, ◌&&◌, cond}
-use mathlib.Core.List.{List}
+use mathlib.Core.List.{List, []}
 use Prim.Native.Nat.{ℕ, zero, suc, ◌*◌, ◌/◌, ◌≤◌, ◌<◌}
 use native.Mathlib.Nat.{mul-le-mul_right}
 use native.Mathlib.Decide.{dec_lt}
@@ -18,11 +18,11 @@ use Rattle.words.specs.Tags.{most_names}
 use Rattle.words.specs.Binoid.{Laws}
 use Rattle.hedge.specs.Schema.{most_states, RulesBelow, EndsBelow}
 use Rattle.hedge.specs.Relation.{has, Within}
-use Rattle.hedge.specs.Operations.{ended, one_pair, fires, wrapped, relation, unit, compose, wrap, accepts, relations}
+use Rattle.hedge.specs.Operations.{ended, one_pair, fires, wrapped, relation, compose, wrap, accepts, relations}
 use Rattle.numbers.proofs.TestLaws.{ext_true, any_in, any_out}
 use Rattle.hedge.proofs.RelationLaws.{relation_cong, relation_none, relation_or}
-use Rattle.hedge.proofs.NumberLaws.{relations_laws}
-use Rattle.lore.specs.Lore.{lore_long, marked, reads, outer, leaf_of, place_of, NamesBelow, Masks, Taught, IsLore}
+use Rattle.hedge.proofs.NumberLaws.{relations_laws, within_wrap}
+use Rattle.lore.specs.Lore.{lore_long, marked, reads, outer, leaf_of, place_of, NamesBelow, Masks, Taught, Known}
 use Rattle.lore.specs.Lore.{states_in, ending_bits, empty_in, meets, met_entry, joined, taught_wrap, taught_accepts, taught}
 use Rattle.lore.proofs.MeetLaws.{off, meets_ended}
 
@@ -70,6 +70,23 @@ pub unnamed_entry : (K : ℕ) (lore : List ℕ) (a y : ℕ) → length lore ≡ 
 unnamed_entry K lore a y long h =
     let far : most_names * K ≤ a * K = mul-le-mul_right K h in
     get_or-eq_default lore 0 (rw long (omega arith))
+
+unnamed_part : (K : ℕ) (lore : List ℕ) (a r y : ℕ) → length lore ≡ lore_long K → most_names ≤ a → met_entry K lore a r y ≡ 0
+unfolding met_entry
+unnamed_part K lore a r y long h = rw (unnamed_entry K lore a y long h) (none (meets K r (ending_bits lore) y))
+  where
+    none : (b : Bool) → ◌≡◌ {A = ℕ} (cond b 0 0) 0
+    none true = refl
+    none false = refl
+
+unnamed_joined : (K : ℕ) (lore : List ℕ) (a r n : ℕ) → length lore ≡ lore_long K → most_names ≤ a → joined K lore a r n ≡ 0
+unfolding joined
+unnamed_joined K lore a r zero long h = refl
+unnamed_joined K lore a r (suc y) long h = rw (unnamed_joined K lore a r y long h, unnamed_part K lore a r y long h)
+
+pub unnamed_wrap : (K : ℕ) (lore : List ℕ) (a r : ℕ) → length lore ≡ lore_long K → most_names ≤ a → taught_wrap K lore a r ≡ 0
+unfolding taught_wrap
+unnamed_wrap K lore a r long h = unnamed_joined K lore a r K long h
 
 unnamed : (rules : List ℕ) → NamesBelow most_names rules → (a y : ℕ) → most_names ≤ a → (x z : ℕ)
     → outer rules a (λ v. eqb v y) (length rules / 4) x z ≡ false
@@ -144,7 +161,7 @@ module _ (K q : ℕ) (rules ends lore : List ℕ) (t : Taught K q rules ends lor
         wrap = λ a r. taught-wrap a r i;
       }
 
--- ---- of a lore that a call is given
+-- ---- what every lore keeps
 
 pub rules_wider : (q K : ℕ) (rules : List ℕ) → q ≤ K → RulesBelow q rules → RulesBelow K rules
 rules_wider q K rules few below i hi = let (hx, hy, hz) = below i hi in (omega arith, omega arith, omega arith)
@@ -152,70 +169,46 @@ rules_wider q K rules few below i hi = let (hx, hy, hz) = below i hi in (omega a
 pub ends_wider : (q K : ℕ) (ends : List ℕ) → q ≤ K → EndsBelow q ends → EndsBelow K ends
 ends_wider q K ends few below j hj = omega (arith, below j hj)
 
-pub is_lore : (q : ℕ) (rules ends lore : List ℕ) → q ≤ most_states → RulesBelow q rules
-    → NamesBelow most_names rules
-    → EndsBelow q ends
-    → Taught most_states q rules ends lore
-    → IsLore most_states lore
-is_lore q rules ends lore few rb nb eb t =
-    record {
-      states = q;
-      rules = rules;
-      ends = ends;
-      few = few;
-      rules_below = rb;
-      names_below = nb;
-      ends_below = eb;
-      taught = t;
-    }
-
-module _ (lore : List ℕ) (l : IsLore most_states lore) where
-  pub lore-long : length lore ≡ lore_long most_states
-  lore-long = l.taught.masks.long
-
-  pub lore_few : states_in lore ≤ most_states
-  lore_few = rw l.taught.states l.few
-
-  pub lore_empty : empty_in lore ≡ unit most_states (states_in lore)
-  lore_empty = rw l.taught.states l.taught.empty
-
-  -- ---- the laws of its binoid
-
-  -- the limits of its schema, by the number of states that the lore has
-  pub lore_rules : RulesBelow (states_in lore) l.rules
-  lore_rules = rw l.taught.states l.rules_below
-
-  pub lore_ends : EndsBelow (states_in lore) l.ends
-  lore_ends = rw l.taught.states l.ends_below
-
-  pub lore_wrap : (a r : ℕ) → taught_wrap most_states lore a r ≡ wrap most_states l.rules l.ends a r
+module _ (q : ℕ) (rules ends lore : List ℕ) (few : q ≤ most_states) (rules_below : RulesBelow q rules)
+    (names_below : NamesBelow most_names rules) (ends_below : EndsBelow q ends) (t : Taught most_states q rules ends lore) where
+  lore_wrap : (a r : ℕ) → taught_wrap most_states lore a r ≡ wrap most_states rules ends a r
   lore_wrap a r =
-      taught-wrap most_states l.states l.rules l.ends lore l.taught
-      (rules_wider l.states most_states l.rules l.few l.rules_below) l.names_below
-      (ends_wider l.states most_states l.ends l.few l.ends_below) a r
+      taught-wrap most_states q rules ends lore t (rules_wider q most_states rules few rules_below) names_below
+      (ends_wider q most_states ends few ends_below) a r
 
   -- the leaf is the element around the empty word
-  pub lore_leaf : (a : ℕ) → a < most_names → get_or lore (leaf_of a) 0 ≡ taught_wrap most_states lore a (empty_in lore)
+  lore_leaf : (a : ℕ) → a < most_names → get_or lore (leaf_of a) 0 ≡ taught_wrap most_states lore a (empty_in lore)
   unfolding outer reads wrap wrapped fires
   lore_leaf a ha =
-      l.taught.leaves.leaves a ha
-      ∙ ap (λ (p : ℕ → Bool). relation most_states (outer l.rules a p (length l.rules / 4)))
-      (λ i y. (ap (λ (m : ℕ). meets most_states (empty_in lore) m y) l.taught.endings
-      ∙ meets_ended most_states l.ends (ends_wider l.states most_states l.ends l.few l.ends_below) (empty_in lore) y) i)
+      t.leaves.leaves a ha
+      ∙ ap (λ (p : ℕ → Bool). relation most_states (outer rules a p (length rules / 4)))
+      (λ i y. (ap (λ (m : ℕ). meets most_states (empty_in lore) m y) t.endings
+      ∙ meets_ended most_states ends (ends_wider q most_states ends few ends_below) (empty_in lore) y) i)
       ∙ sym (lore_wrap a (empty_in lore))
 
-  abbrev pub lore_relations : Laws (relations most_states (states_in lore) l.rules l.ends)
-  lore_relations =
-      relations_laws most_states (states_in lore) lore_few l.rules l.ends lore_rules lore_ends
-
-  abbrev pub taught_laws : Laws (taught most_states lore)
-  taught_laws =
+  -- so it keeps what every lore keeps
+  pub known_lore : Known most_states lore
+  known_lore =
       record {
-        Good = Within most_states (states_in lore);
-        good_unit = rw lore_empty lore_relations.good_unit;
-        good_compose = λ g k. lore_relations.good_compose g k;
-        good_wrap = λ {a} {x} g. rw (lore_wrap a x) (lore_relations.good_wrap g);
-        unit_left = λ g. rw lore_empty (lore_relations.unit_left g);
-        unit_right = λ g. rw lore_empty (lore_relations.unit_right g);
-        assoc = λ g k m. lore_relations.assoc g k m;
+        few = rw t.states few;
+        empty = rw t.states t.empty;
+        leaves = lore_leaf;
+        unnamed = λ a r h. unnamed_wrap most_states lore a r t.masks.long h;
+        within = λ a r. rw (t.states, lore_wrap a r) (within_wrap most_states q few rules ends rules_below ends_below a r);
       }
+
+-- ---- of a lore that a call is given
+
+-- its binoid's laws: composition and its unit are those of any schema of so many states, an element around a word is kept within them
+abbrev pub taught_laws : (lore : List ℕ) → Known most_states lore → Laws (taught most_states lore)
+taught_laws lore k =
+    let L = relations_laws most_states (states_in lore) k.few [] [] (λ i h. absurd (omega arith)) (λ j h. absurd (omega arith)) in
+    record {
+      Good = Within most_states (states_in lore);
+      good_unit = rw k.empty L.good_unit;
+      good_compose = λ g h. L.good_compose g h;
+      good_wrap = λ {a} {x} g. k.within a x;
+      unit_left = λ g. rw k.empty (L.unit_left g);
+      unit_right = λ g. rw k.empty (L.unit_right g);
+      assoc = λ g h m. L.assoc g h m;
+    }

@@ -8,7 +8,7 @@ use Rattle.numbers.specs.Bits.{any, number}
 use Rattle.numbers.specs.Fields.{field}
 use Rattle.words.specs.Tags.{most_names}
 use Rattle.words.specs.Binoid.{Binoid}
-use Rattle.hedge.specs.Schema.{RulesBelow, EndsBelow}
+use Rattle.hedge.specs.Relation.{Within}
 use Rattle.hedge.specs.Operations.{one_pair, relation, unit, compose}
 
 -- ---- limits
@@ -79,17 +79,6 @@ pub record Taught (K q : ℕ) (rules ends lore : List ℕ) : Type 0 where
   pub masks : Masks K rules (length rules / 4) lore
   pub leaves : Leaves K (ending_bits lore) (empty_in lore) rules (length rules / 4) lore
 
--- the lore of some schema of at most K states: what every call asks of it
-pub record IsLore (K : ℕ) (lore : List ℕ) : Type 0 where
-  pub states : ℕ
-  pub rules : List ℕ
-  pub ends : List ℕ
-  pub few : states ≤ K
-  pub rules_below : RulesBelow states rules
-  pub names_below : NamesBelow most_names rules
-  pub ends_below : EndsBelow states ends
-  pub taught : Taught K states rules ends lore
-
 -- ---- the operations, read off the lore
 
 -- the entry of inner state y, where its row meets the ending states
@@ -111,6 +100,15 @@ taught_accepts K lore r = meets K r (ending_bits lore) 0
 -- the binoid of the lore
 abbrev pub taught : ℕ → List ℕ → Binoid
 taught K lore = record { H = ℕ; unit = empty_in lore; compose = compose K (states_in lore); wrap = taught_wrap K lore }
+
+-- what every lore keeps, whatever schema it was taught: few states, the relation of the empty word, leaves that are the elements around it,
+-- and elements that stay within the states
+pub record Known (K : ℕ) (lore : List ℕ) : Type 0 where
+  pub few : states_in lore ≤ K
+  pub empty : empty_in lore ≡ unit K (states_in lore)
+  pub leaves : (a : ℕ) → a < most_names → get_or lore (leaf_of a) 0 ≡ taught_wrap K lore a (empty_in lore)
+  pub unnamed : (a r : ℕ) → most_names ≤ a → taught_wrap K lore a r ≡ 0
+  pub within : (a r : ℕ) → Within K (states_in lore) (taught_wrap K lore a r)
 
 abbrev pub zeros : ℕ → List ℕ
 zeros n = replicate n 0

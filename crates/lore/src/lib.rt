@@ -10,8 +10,8 @@ ghost use Rattle.numbers.specs.Fields.{field};
 ghost use Rattle.words.specs.Tags.{most_names};
 ghost use Rattle.hedge.specs.Schema.{most_states, RulesBelow, EndsBelow};
 ghost use Rattle.hedge.specs.Operations.{relation, one_pair, compose};
-ghost use Rattle.lore.specs.Lore.{lore_long, states_in, empty_in, NamesBelow, marked, leaf_of, place_of, zeros, Masks, Leaves, Taught, IsLore};
-ghost use Rattle.lore.specs.Lore.{meets, met_entry, taught_wrap, taught_accepts};
+ghost use Rattle.lore.specs.Lore.{lore_long, states_in, empty_in, NamesBelow, marked, leaf_of, place_of, zeros, Masks, Leaves, Taught};
+ghost use Rattle.lore.specs.Lore.{meets, met_entry, taught_wrap, taught_accepts, Known};
 
 // The entries of a lore before its leaves, those before its table, and all its entries.
 const HEAD: usize = 8;
@@ -19,6 +19,13 @@ const HEAD: usize = 8;
 const TABLE: usize = HEAD + words::NAMES;
 
 pub const LORE: usize = TABLE + words::NAMES * hedge::STATES;
+
+// A schema that was taught: it is that of some rules and ending states.
+#[derive(Drop)]
+pub struct Lore {
+    pub entries: [u64; LORE],
+    pub ghost known: { Known most_states entries },
+}
 
 // The ending states as the bits of a number.
 fn ending_marks(ends: &[u8]) -> u64
@@ -127,7 +134,7 @@ fn put_head(lore: &mut [u64; LORE], states: usize, marks: u64, empty: u64)
 }
 
 // The whole schema, into a table of zeros.
-pub fn teach(rules: &[u8], ends: &[u8], states: usize, lore: &mut [u64; LORE])
+fn teach_all(rules: &[u8], ends: &[u8], states: usize, lore: &mut [u64; LORE])
     requires states_le_most_states { states ≤ most_states }
     requires rules_below { RulesBelow most_states rules.now }
     requires names_below { NamesBelow most_names rules.now }
@@ -141,19 +148,62 @@ pub fn teach(rules: &[u8], ends: &[u8], states: usize, lore: &mut [u64; LORE])
     put_head(lore, states, marks, empty);
 }
 
-// The relation of the empty word.
-pub fn empty(lore: &[u64; LORE]) -> u64
-    ensures { result ≡ empty_in lore.now }
-{
-    lore[2]
-}
+impl Lore {
+    // That of no state and no rule, for one to be taught.
+    pub fn untaught() -> Self
+        ensures { result.entries ≡ zeros (lore_long most_states) }
+    {
+        Lore {
+            entries: [0u64; LORE],
+        }
+    }
 
-// The relation of two words in a row, the left one often empty.
-pub fn follow(lore: &[u64; LORE], left: u64, right: u64) -> u64
-    requires { IsLore most_states lore.now }
-    ensures { result ≡ compose most_states (states_in lore.now) left right }
-{
-    hedge::follow(lore[0] as usize, lore[2], left, right)
+    // The whole schema.
+    pub fn teach(&mut self, rules: &[u8], ends: &[u8], states: usize)
+        requires states_le_most_states { states ≤ most_states }
+        requires rules_below { RulesBelow states rules.now }
+        requires names_below { NamesBelow most_names rules.now }
+        requires ends_below { EndsBelow states ends.now }
+        requires lore_value { self.old.entries ≡ zeros (lore_long most_states) }
+        ensures { Taught most_states states rules.now ends.now self.new.entries }
+    {
+        teach_all(rules, ends, states, &mut self.entries);
+    }
+
+    // The relation of the empty word.
+    pub fn empty(&self) -> u64
+        ensures { result ≡ empty_in self.now.entries }
+    {
+        self.entries[2]
+    }
+
+    // The relation of two words in a row, the left one often empty.
+    pub fn follow(&self, left: u64, right: u64) -> u64
+        ensures { result ≡ compose most_states (states_in self.now.entries) left right }
+    {
+        hedge::follow(self.entries[0] as usize, self.entries[2], left, right)
+    }
+
+    // The relation of the element of this name around a word; no rule has a name past the most.
+    pub fn wrap(&self, name: u8, inner: u64) -> u64
+        ensures { result ≡ taught_wrap most_states self.now.entries name inner }
+    {
+        let a = usize::from(name);
+        if words::NAMES <= a {
+            return 0;
+        }
+        if inner == self.entries[2] {
+            return self.entries[leaf(a)];
+        }
+        joined(&self.entries, a, inner)
+    }
+
+    // Does state 0 derive a word of this relation?
+    pub fn accepts(&self, r: u64) -> bool
+        ensures { result ≡ taught_accepts most_states self.now.entries r }
+    {
+        meets(r, self.entries[1], 0)
+    }
 }
 
 // A relation joined with the entry of inner state y, where its row meets the ending states.
@@ -178,26 +228,4 @@ fn joined(lore: &[u64; LORE], name: usize, inner: u64) -> u64
         r = join_entry(lore, name, inner, y, r);
     }
     r
-}
-
-// The relation of the element of this name around a word; no rule has a name past the most.
-pub fn wrap(lore: &[u64; LORE], name: u8, inner: u64) -> u64
-    requires { IsLore most_states lore.now }
-    ensures { result ≡ taught_wrap most_states lore.now name inner }
-{
-    let a = usize::from(name);
-    if words::NAMES <= a {
-        return 0;
-    }
-    if inner == lore[2] {
-        return lore[leaf(a)];
-    }
-    joined(lore, a, inner)
-}
-
-// Does state 0 derive a word of this relation?
-pub fn accepts(lore: &[u64; LORE], r: u64) -> bool
-    ensures { result ≡ taught_accepts most_states lore.now r }
-{
-    meets(r, lore[1], 0)
 }

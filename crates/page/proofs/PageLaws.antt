@@ -26,7 +26,7 @@ use Rattle.reader.specs.declared.Stop.{Stop}
 use Rattle.reader.specs.declared.Stop.TheVariants as stop
 use Rattle.summary.specs.Replies.{reply_of}
 use Rattle.summary.specs.Fragments.{FragmentSays, FragmentFinds}
-use Rattle.summary.proofs.FragmentLaws.{found_reply, taught_lore, says_found}
+use Rattle.summary.proofs.FragmentLaws.{found_reply, says_found}
 use Rattle.page.specs.declared.PageRefusal.{PageRefusal}
 use Rattle.page.specs.Pages.{PageSays, stopped, tested}
 
@@ -71,4 +71,4 @@ module _ (f bytes : List ℕ) (r : Result Summary Stop) (says : FragmentSays f b
   pub stopped_page : (e : Stop) → r ≡ Err e → PageSays f bytes (Err (stopped e))
   stopped_page e d = stop_says f bytes e (rw d at says)
 
-pub ruleset page_turns = (read_is, taught_lore, says_found, summarised_holds, summarised_page, stopped_page, rules)
+pub ruleset page_turns = (read_is, says_found, summarised_holds, summarised_page, stopped_page, rules)

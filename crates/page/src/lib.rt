@@ -51,9 +51,9 @@ impl From<form::Flaw> for PageRefusal {
 }
 
 // The two tests at the end of what was read without refusal.
-fn tested(lore: &[u64; lore::LORE], s: form::Summary) -> Result<(), PageRefusal>
+fn tested(lore: &lore::Lore, s: form::Summary) -> Result<(), PageRefusal>
     requires { Holds s }
-    ensures { result ≡ tested (ending_of lore.now (form_of s) (last_of s)) }
+    ensures { result ≡ tested (ending_of lore.now.entries (form_of s) (last_of s)) }
 {
     let c = s.counts;
     let last = pieces::piece_at(&s.values, c.ends + c.starts);
@@ -66,7 +66,7 @@ fn read_under(file: &[u8], shape: template::Shape, bytes: &[u8]) -> Result<(), P
     requires { reading file.now ≡ Ok shape }
     ensures { PageSays file.now bytes.now result }
 {
-    let mut lore = [0u64; lore::LORE];
+    let mut lore = lore::Lore::untaught();
     schema::teach(file, shape, &mut lore);
     let s = summary::summarise(&lore, shape.names, bytes)?;
     tested(&lore, s)

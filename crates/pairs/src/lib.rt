@@ -5,7 +5,6 @@
 ghost use Rattle.std.specs.Prelude.{◌≡◌, ◌+◌, ◌*◌, ◌≤◌, eqb, length, Some};
 ghost use Rattle.words.specs.Reduced.{Stack, tags};
 ghost use Rattle.hedge.specs.Schema.{most_states};
-ghost use Rattle.lore.specs.Lore.{IsLore};
 ghost use Rattle.pieces.specs.declared.Piece.{Piece};
 ghost use Rattle.pieces.specs.Pieces.{most_tags, piece_at, pieces, Counted};
 ghost use Rattle.form.specs.Held.{tag_count, summary_of, form_of, last_of, Holds};
@@ -162,14 +161,14 @@ fn load(
 
 // Is the form one of the start that is no page's?
 fn invalid_form(
-    lore: &[u64; lore::LORE],
+    lore: &lore::Lore,
     x: u8,
     c: form::Counts,
     values: &[u64; pieces::PIECES],
 ) -> bool
     requires { tag_count c ≤ most_tags }
     ensures { (s : Stack Piece) → tags s ≡ tag_count c
-        → result ≡ invalid_form lore.now (record { of = x; form = s; last = piece_at values.now (tag_count c) }) }
+        → result ≡ invalid_form lore.now.entries (record { of = x; form = s; last = piece_at values.now (tag_count c) }) }
 {
     x == 0 && form::ending_of(lore, c, pieces::piece_at(values, c.ends + c.starts)).is_err()
 }
@@ -190,7 +189,7 @@ fn row_of(
 
 // A form of x: its row goes behind the others, unless it stands among them or there is no room.
 fn note_form(
-    lore: &[u64; lore::LORE],
+    lore: &lore::Lore,
     x: u8,
     c: form::Counts,
     names: &[u8; pieces::TAGS],
@@ -201,7 +200,7 @@ fn note_form(
     requires holds { Holds (summary_of c names.now values.now) }
     requires table_long_in_bounds { table_long ≤ length table.old }
     requires rows_le_most_images { found.rows ≤ most_images }
-    ensures { PairNoted lore.now (record {
+    ensures { PairNoted lore.now.entries (record {
       of = x;
       form = form_of (summary_of c names.now values.now);
       last = last_of (summary_of c names.now values.now);
@@ -230,7 +229,7 @@ fn note_form(
 
 // A form of each marked nonterminal, in turn. No turn is made once no mark is left, for mostly there is one.
 fn note_forms(
-    lore: &[u64; lore::LORE],
+    lore: &lore::Lore,
     marks: u64,
     c: form::Counts,
     names: &[u8; pieces::TAGS],
@@ -241,7 +240,7 @@ fn note_forms(
     requires holds { Holds (summary_of c names.now values.now) }
     requires table_long_in_bounds { table_long ≤ length table.old }
     requires rows_le_most_images { found.rows ≤ most_images }
-    ensures { FormsNoted lore.now marks (form_of (summary_of c names.now values.now))
+    ensures { FormsNoted lore.now.entries marks (form_of (summary_of c names.now values.now))
         (last_of (summary_of c names.now values.now)) table.old found 64 result table.new }
 {
     let mut tally = found;
@@ -270,18 +269,17 @@ fn noted_deep(marks: u64, found: Tally) -> Tally
 // One pair of choices under rules of every marked nonterminal: joined once for all of them. Most right rows are other nonterminals', so the
 // right choice is looked at before any array is made. None: a mismatch.
 pub fn one_turn(
-    lore: &[u64; lore::LORE],
+    lore: &lore::Lore,
     pair: Selection,
     marks: u64,
     table: &mut [u64],
     found: Tally,
 ) -> Option<Tally>
-    requires lore { IsLore most_states lore.now }
     requires choosable { Choosable table.old pair.left pair.j }
     requires choosable_2 { Choosable table.old pair.right pair.k }
     requires table_long_in_bounds { table_long ≤ length table.old }
     requires rows_le_most_images { found.rows ≤ most_images }
-    ensures { Turned lore.now table.old pair marks found result table.new }
+    ensures { Turned lore.now.entries table.old pair marks found result table.new }
 {
     if !fits(pair.right, pair.k, table) {
         return Some(found);

@@ -24,7 +24,7 @@ use Rattle.hedge.specs.Relation.{RelationOf}
 use Rattle.hedge.specs.Operations.{unit, compose, wrap, relations}
 use Rattle.hedge.proofs.NumberLaws.{relations_laws, relation_of_value, derives_accepts}
 use Rattle.hedge.proofs.CoverLaws.{covers_within}
-use Rattle.lore.specs.Lore.{NamesBelow, Taught, IsLore}
+use Rattle.lore.specs.Lore.{NamesBelow, Taught, Known}
 use Rattle.lore.proofs.LoreLaws.{zero_at}
 use Rattle.lore.proofs.TaughtLaws.{taught-wrap, taught-accepts, taught_laws}
 use Rattle.pieces.specs.declared.Piece.{Piece}
@@ -127,7 +127,7 @@ module _ (empty : ℕ) (follow around : ℕ → ℕ → ℕ) where
       → Value plain w p.relation × Value outermost w p.outermost
   value_lifted v = value_sides plain outermost sides v
 
-abbrev pub pieces_laws : (lore : List ℕ) → IsLore most_states lore → Laws (pieces lore)
+abbrev pub pieces_laws : (lore : List ℕ) → Known most_states lore → Laws (pieces lore)
 pieces_laws lore l = lifted_laws _ _ _ (taught_laws lore l)
 
 -- two words in a row have 0, 1 or 2

@@ -6,7 +6,6 @@ ghost use Rattle.std.specs.Prelude.{◌≡◌, true, ◌+◌, ◌≤◌};
 ghost use Rattle.words.specs.Binoid.{Binoid};
 ghost use Rattle.words.specs.Outermost.{at_most_several};
 ghost use Rattle.hedge.specs.Schema.{most_states};
-ghost use Rattle.lore.specs.Lore.{IsLore};
 ghost use Rattle.pieces.specs.Pieces.{most_tags, zero_piece, piece_at, put_piece, pieces, fits_in, is_none, accepts_piece};
 
 // The most tags of a form, the entries of a piece, and those of a form's pieces, one piece more than tags.
@@ -76,11 +75,11 @@ pub fn is_none(p: Piece) -> bool
 }
 
 // The empty word's.
-pub fn empty(lore: &[u64; lore::LORE]) -> Piece
-    ensures { result ≡ (pieces lore.now).unit }
+pub fn empty(lore: &lore::Lore) -> Piece
+    ensures { result ≡ (pieces lore.now.entries).unit }
 {
     Piece {
-        relation: lore::empty(lore),
+        relation: lore.empty(),
         outermost: 0,
     }
 }
@@ -94,23 +93,21 @@ fn added(m: u64, n: u64) -> u64
 }
 
 // That of two words in a row.
-pub fn follow(lore: &[u64; lore::LORE], left: Piece, right: Piece) -> Piece
-    requires { IsLore most_states lore.now }
-    ensures { result ≡ (pieces lore.now).compose left right }
+pub fn follow(lore: &lore::Lore, left: Piece, right: Piece) -> Piece
+    ensures { result ≡ (pieces lore.now.entries).compose left right }
 {
     Piece {
-        relation: lore::follow(lore, left.relation, right.relation),
+        relation: lore.follow(left.relation, right.relation),
         outermost: added(left.outermost, right.outermost),
     }
 }
 
 // That of the element of this name around a word.
-pub fn element(lore: &[u64; lore::LORE], name: u8, inner: Piece) -> Piece
-    requires { IsLore most_states lore.now }
-    ensures { result ≡ (pieces lore.now).wrap name inner }
+pub fn element(lore: &lore::Lore, name: u8, inner: Piece) -> Piece
+    ensures { result ≡ (pieces lore.now.entries).wrap name inner }
 {
     Piece {
-        relation: lore::wrap(lore, name, inner.relation),
+        relation: lore.wrap(name, inner.relation),
         outermost: 1,
     }
 }
@@ -126,8 +123,8 @@ pub fn fits(states: usize, p: Piece) -> bool
 
 // Does state 0 derive a word of this piece, and is it one element?
 #[tactic(auto, unfolding(crate::specs::Pieces::accepts_piece))]
-pub fn accepts(lore: &[u64; lore::LORE], p: Piece) -> bool
-    ensures { result ≡ accepts_piece lore.now p }
+pub fn accepts(lore: &lore::Lore, p: Piece) -> bool
+    ensures { result ≡ accepts_piece lore.now.entries p }
 {
-    lore::accepts(lore, p.relation) && p.outermost == 1
+    lore.accepts(p.relation) && p.outermost == 1
 }

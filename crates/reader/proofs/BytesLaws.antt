@@ -13,7 +13,7 @@ use Rattle.words.specs.Tags.{Tag, Spells}
 use Rattle.words.specs.Binoid.{Binoid}
 use Rattle.words.specs.Reader.{Limited, differs, too_deep}
 use Rattle.hedge.specs.Schema.{most_states}
-use Rattle.lore.specs.Lore.{IsLore}
+use Rattle.lore.specs.Lore.{Known}
 use Rattle.pieces.specs.declared.Piece.{Piece}
 use Rattle.pieces.specs.Pieces.{most_tags, piece_at, pieces}
 use Rattle.pieces.proofs.PieceLaws.{pieces_laws}
@@ -83,7 +83,7 @@ module _ (known : ℕ) (lore bytes : List ℕ) where
 
   -- next
 
-  module _ (is : IsLore most_states lore) (i : ℕ) (c : Counts) (l : i < length bytes) (names values : List ℕ)
+  module _ (is : Known most_states lore) (i : ℕ) (c : Counts) (l : i < length bytes) (names values : List ℕ)
       (t : SoFar known lore bytes i c names values) (names' values' : List ℕ) where
     after_byte : {u : Tag} → Spells known (get_or bytes i 0) u → (o : Limited Piece)
         → after_tag lore (summary_of c names values) u ≡ o

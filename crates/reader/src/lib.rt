@@ -4,7 +4,6 @@
 
 ghost use Rattle.std.specs.Prelude.{◌≡◌};
 ghost use Rattle.hedge.specs.Schema.{most_states};
-ghost use Rattle.lore.specs.Lore.{IsLore};
 ghost use Rattle.pieces.specs.Pieces.{most_tags, piece_at, pieces};
 ghost use Rattle.form.specs.Held.{summary_of, Holds};
 ghost use Rattle.form.specs.Steps.{after_tag};
@@ -31,7 +30,7 @@ fn stop_at(clash: form::Clash, at: usize) -> Stop
 
 // One byte more, where there are `known` names; `at` is its place.
 fn then_byte(
-    lore: &[u64; lore::LORE],
+    lore: &lore::Lore,
     names: &mut [u8; pieces::TAGS],
     values: &mut [u64; pieces::PIECES],
     c: form::Counts,
@@ -39,10 +38,9 @@ fn then_byte(
     byte: u8,
     at: usize,
 ) -> Result<form::Counts, Stop>
-    requires lore { IsLore most_states lore.now }
     requires holds { Holds (summary_of c names.old values.old) }
     ensures { Fed result names.new values.new
-        (after_tag lore.now (summary_of c names.old values.old)) known byte at }
+        (after_tag lore.now.entries (summary_of c names.old values.old)) known byte at }
 {
     let tag = words::class_of(known, byte).ok_or(Stop::NotATag(at))?;
     let step = match tag {
@@ -54,17 +52,16 @@ fn then_byte(
 
 // Reads the bytes one by one into the arrays, which hold the empty word.
 pub fn read_bytes(
-    lore: &[u64; lore::LORE],
+    lore: &lore::Lore,
     names: &mut [u8; pieces::TAGS],
     values: &mut [u64; pieces::PIECES],
     known: u8,
     bytes: &[u8],
 ) -> Result<form::Counts, Stop>
-    requires lore { IsLore most_states lore.now }
     requires holds { Holds (summary_of (record { ends = 0; starts = 0 }) names.old values.old) }
-    requires values_value { piece_at values.old 0 ≡ (pieces lore.now).unit }
+    requires values_value { piece_at values.old 0 ≡ (pieces lore.now.entries).unit }
     ensures { Progressed result names.new values.new
-        (Reads known (pieces lore.now) most_tags bytes.now) }
+        (Reads known (pieces lore.now.entries) most_tags bytes.now) }
 {
     let mut c = form::counted(0, 0);
     for (i, byte) in bytes.iter().enumerate() {

@@ -100,13 +100,13 @@ fn wipe(table: &mut [u64])
 fn rounds(
     file: &[u8],
     shape: template::Shape,
-    lore: &[u64; lore::LORE],
+    lore: &lore::Lore,
     shares: &[u64; template::RULES],
     table: &mut [u64],
     budget: usize,
 ) -> CheckReply
     requires file_value { reading file.now ≡ Ok shape }
-    requires lore_of { LoreOf file.now lore.now }
+    requires lore_of { LoreOf file.now lore.now.entries }
     requires shares { Shares (template_rules file.now) shares.now }
     requires has_page { HasPage file.now }
     requires lent { Lent file.now table.old budget }
@@ -158,7 +158,7 @@ fn check_sound(file: &[u8], shape: template::Shape, table: &mut [u64], budget: u
     let useful = useful::reached(rules, productive);
     let mut shares = [0u64; template::RULES];
     shares::share(rules, productive, useful, &mut shares);
-    let mut lore = [0u64; lore::LORE];
+    let mut lore = lore::Lore::untaught();
     schema::teach(file, shape, &mut lore);
     rounds(file, shape, &lore, &shares, table, budget)
 }

@@ -9,17 +9,12 @@ ghost use Rattle.schema.specs.Schemas.{LoreOf};
 
 use view::View;
 
-// Teaches the schema of a sound file of these numbers, into a table of zeros.
-pub fn teach(file: &[u8], shape: template::Shape, lore: &mut [u64; lore::LORE])
+// Teaches the schema of a sound file of these numbers, to a lore that was taught none.
+pub fn teach(file: &[u8], shape: template::Shape, lore: &mut lore::Lore)
     requires file_value { reading file.now ≡ Ok shape }
-    requires lore_value { lore.old ≡ zeros (lore_long most_states) }
-    ensures { LoreOf file.now lore.new }
+    requires lore_value { lore.old.entries ≡ zeros (lore_long most_states) }
+    ensures { LoreOf file.now lore.new.entries }
 {
     let view = View::of(file, shape);
-    lore::teach(
-        view.schema(),
-        view.endings(),
-        usize::from(shape.states),
-        lore,
-    );
+    lore.teach(view.schema(), view.endings(), usize::from(shape.states));
 }

@@ -28,7 +28,6 @@ use Rattle.summary.specs.declared.JoinRefusal.TheVariants.{BadFile, NoSummary}
 use Rattle.summary.specs.Replies.{clashed, reply_of}
 use Rattle.summary.specs.Joins.{SummaryUnder, BothSummaries, outcome_of, JoinSays}
 use Rattle.summary.proofs.PackingLaws.{holds_packs}
-use Rattle.summary.proofs.FragmentLaws.{taught_lore}
 
 -- a summary in the arrays
 
@@ -86,4 +85,4 @@ module _ (f : List ℕ) (shape : Shape) (sound : reading f ≡ Ok shape) (lore :
   pub joined_refused : (e : Clash) → t ≡ Err e → JoinSays f left right (reply_of (Err (clashed e)))
   joined_refused e d = joined_clash e (rw d at joined_limit)
 
-pub ruleset join_turns = (taught_lore, joined_kept, joined_refused, rules)
+pub ruleset join_turns = (joined_kept, joined_refused, rules)

@@ -4,7 +4,6 @@
 
 ghost use Rattle.std.specs.Prelude.{◌≡◌, true, ◌↔◌, ◌+◌, ◌≤◌, ◌<◌, pos, ◌-ℤ◌, length, Ok};
 ghost use Rattle.hedge.specs.Schema.{most_states};
-ghost use Rattle.lore.specs.Lore.{IsLore};
 ghost use Rattle.pieces.specs.Pieces.{most_tags, most_pieces, pieces};
 ghost use Rattle.template.specs.Order.{reading};
 ghost use Rattle.reader.specs.Reads.{Reads};
@@ -125,12 +124,11 @@ fn reply_of<E>(found: Result<form::Summary, E>) -> Reply<E>
 
 // Reads the bytes under a schema that was taught, where there are `known` names.
 pub fn summarise(
-    lore: &[u64; lore::LORE],
+    lore: &lore::Lore,
     known: u8,
     bytes: &[u8],
 ) -> Result<form::Summary, reader::Stop>
-    requires { IsLore most_states lore.now }
-    ensures { FragmentFinds (Reads known (pieces lore.now) most_tags bytes.now) result }
+    ensures { FragmentFinds (Reads known (pieces lore.now.entries) most_tags bytes.now) result }
 {
     let mut names = [0u8; pieces::TAGS];
     let mut values = [0u64; pieces::PIECES];
@@ -148,7 +146,7 @@ fn fragment_under(file: &[u8], bytes: &[u8]) -> Result<form::Summary, FragmentRe
     ensures { FragmentSays file.now bytes.now (reply_of result) }
 {
     let shape = template::read(file)?;
-    let mut lore = [0u64; lore::LORE];
+    let mut lore = lore::Lore::untaught();
     schema::teach(file, shape, &mut lore);
     let s = summarise(&lore, shape.names, bytes)?;
     Ok(s)
@@ -223,7 +221,7 @@ fn join_summaries(
     requires summary_under_2 { SummaryUnder file.now right }
     ensures { JoinSays file.now left right (reply_of result) }
 {
-    let mut lore = [0u64; lore::LORE];
+    let mut lore = lore::Lore::untaught();
     schema::teach(file, shape, &mut lore);
     let mut names = left.names;
     let mut values = left.values;

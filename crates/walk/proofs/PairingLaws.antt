@@ -13,7 +13,7 @@ use Rattle.words.specs.Reader.{Outcome, reduced, join}
 use Rattle.words.proofs.JoinLaws.{join_good}
 use Rattle.numbers.specs.Bits.{bit}
 use Rattle.hedge.specs.Schema.{most_states}
-use Rattle.lore.specs.Lore.{IsLore}
+use Rattle.lore.specs.Lore.{Known}
 use Rattle.pieces.specs.declared.Piece.{Piece}
 use Rattle.pieces.specs.Pieces.{pieces}
 use Rattle.pieces.proofs.PieceLaws.{pieces_laws}
@@ -57,7 +57,7 @@ pub record Pairing (lore rules : List ℕ) (b : Book) (i j k x : ℕ) (o : Outco
 short : (rules : List ℕ) (x : ℕ) (ss : List Symbol) → Gives rules x ss → length ss ≤ 2
 short rules x ss (i, l, e, q) = rw (← q) (right_length rules i)
 
-module _ {lore rules : List ℕ} (is_lore : IsLore most_states lore) (b : Book)
+module _ {lore rules : List ℕ} (is_lore : Known most_states lore) (b : Book)
     (proper : (k : ℕ) → k < b.rows → (p : Pair Piece) × PairRow (table_row b.table k) p × ProperPair lore rules p) where
   -- a pair that stands in the rows is proper, and its form is good
 

@@ -10,7 +10,7 @@ use native.Mathlib.Omega.{arith}
 use lib.ListN.{length}
 use Rattle.words.specs.Reader.{Outcome}
 use Rattle.hedge.specs.Schema.{most_states}
-use Rattle.lore.specs.Lore.{IsLore}
+use Rattle.lore.specs.Lore.{Known}
 use Rattle.pieces.specs.declared.Piece.{Piece}
 use Rattle.useful.specs.Marks.{RulesInRange}
 use Rattle.pairs.specs.Books.{book_of, table_row}
@@ -29,7 +29,7 @@ use Rattle.walk.proofs.ProgressLaws.{no_notes, tally_book, Sofar, sofar_start, s
 
 -- what the walk is lent
 pub record LentParts (lore rules shares : List ℕ) : Type 0 where
-  pub is_lore : IsLore most_states lore
+  pub is_lore : Known most_states lore
   pub in_range : RulesInRange rules
   pub all_shares : Shares rules shares
 

@@ -6,7 +6,6 @@
 
 ghost use Rattle.std.specs.Prelude.{◌≡◌, ◌+◌, ◌*◌, ◌/◌, ◌<◌, ◌≤◌, ltb, length};
 ghost use Rattle.hedge.specs.Schema.{most_states};
-ghost use Rattle.lore.specs.Lore.{IsLore};
 ghost use Rattle.template.specs.Layout.{most_rules};
 ghost use Rattle.useful.specs.Marks.{RulesInRange};
 ghost use Rattle.worktable.specs.Packed.{row_width, most_images};
@@ -123,18 +122,17 @@ fn lefts_of(walked: bool, left: pairs::Slot, n: usize) -> usize
 // The walk of one round: its tally, or none where a mismatch stopped it.
 pub fn walk_round(
     rules: &[u8],
-    lore: &[u64; lore::LORE],
+    lore: &lore::Lore,
     shares: &[u64; template::RULES],
     table: &mut [u64],
     round: Round,
 ) -> Option<pairs::Tally>
-    requires lore { IsLore most_states lore.now }
     requires rules_in_range { RulesInRange rules.now }
     requires shares { Shares rules.now shares.now }
     requires rules_len_bound { length rules.now / 4 ≤ most_rules }
-    requires proper_rows { ProperRows lore.now rules.now (book_of table.old round.rows) }
-    requires round_begins { RoundBegins lore.now rules.now table.old round }
-    ensures { Walked lore.now rules.now (book_of table.old round.rows) result table.new }
+    requires proper_rows { ProperRows lore.now.entries rules.now (book_of table.old round.rows) }
+    requires round_begins { RoundBegins lore.now.entries rules.now table.old round }
+    ensures { Walked lore.now.entries rules.now (book_of table.old round.rows) result table.new }
 {
     let prev = round.prev;
     let n = round.rows;

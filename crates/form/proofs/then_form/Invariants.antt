@@ -7,4 +7,4 @@ use Rattle.form.proofs.then_form.Given as goal
 abbrev pub invariant-loop-k : goal.invariant-loop-k
 invariant-loop-k l =
     Holds (summary_of l.d l.names l.values)
-    × (held (summary_of l.d l.names l.values) ≡ turned l.lore (held (summary_of l.initial.d l.initial.names l.initial.values)) l.closing l.tags l.parts l.k)
+    × (held (summary_of l.d l.names l.values) ≡ turned l.lore.entries (held (summary_of l.initial.d l.initial.names l.initial.values)) l.closing l.tags l.parts l.k)

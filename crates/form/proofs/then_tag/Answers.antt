@@ -7,7 +7,7 @@ use Rattle.form.proofs.then_tag.Goals as goal
 pub meet-requires : goal.meet-requires
 meet-requires c =
     let m = meets_start c.args.c.starts c.args.closes c.if-closes-c.true in
-    record { lore = c.requires.lore; holds = c.requires.holds; starts_nonzero = m.1 }
+    record { holds = c.requires.holds; starts_nonzero = m.1 }
 
 pub returns-then-closes-c : goal.returns-then-closes-c
 returns-then-closes-c c = search tag_laws

@@ -5,9 +5,6 @@ use Rattle.summary.proofs.FragmentLaws.{says_found}
 use Rattle.page.proofs.PageLaws.{stopped_page, summarised_page, page_turns}
 use Rattle.page.proofs.read_under.Goals as goal
 
-pub summarise-requires : goal.summarise-requires
-summarise-requires c = search page_turns
-
 pub returns-in_err-s : goal.returns-in_err-s
 returns-in_err-s c =
     let p = err_from_is_err_and c.from_residual.result c.from_residual.ensures.1 in

@@ -11,6 +11,6 @@ invariant-loop-x l =
     record {
       room : l.tally.rows ≤ most_images;
       same_length : length l.table ≡ length l.initial.table;
-      noted : FormsNoted l.lore l.marks (form_of (summary_of l.c l.names l.values)) (last_of (summary_of l.c l.names l.values))
+      noted : FormsNoted l.lore.entries l.marks (form_of (summary_of l.c l.names l.values)) (last_of (summary_of l.c l.names l.values))
           l.initial.table l.initial.tally l.x l.tally l.table;
     }

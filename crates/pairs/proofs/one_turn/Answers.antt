@@ -19,7 +19,7 @@ pub returns-in_default-a : goal.returns-in_default-a
 returns-in_default-a c = search (turn_no_left, c.empty-empty.ensures, c.in_default-a.ensures)
 
 pub then_form-t-requires : goal.then_form-t-requires
-then_form-t-requires c = record { lore = c.requires.lore; holds = c.in-Some-a.ensures.0; more_bound = c.in-Some.ensures.0.room }
+then_form-t-requires c = record { holds = c.in-Some-a.ensures.0; more_bound = c.in-Some.ensures.0.room }
 
 pub note_forms-requires : goal.note_forms-requires
 note_forms-requires c =

@@ -10,7 +10,6 @@ use Rattle.std.specs.Prelude.{Ok}
 use Rattle.template.specs.declared.Shape.{Shape}
 use Rattle.template.proofs.ShapeLaws.{shape_sound}
 use Rattle.schema.specs.Schemas.{LoreOf}
-use Rattle.schema.proofs.SchemaLaws.{file_lore}
 use Rattle.view.specs.Views.{templates_by}
 use Rattle.pairs.specs.Books.{book_of}
 use Rattle.pairs.specs.declared.Tally.{Tally}
@@ -41,19 +40,18 @@ turn f lore t₀ t t' budget r prev n w e {shape} {part} sound taught page lent 
     }
 
 pub loop-r-init : goal.loop-r-init
-loop-r-init c = start_state c.args.file.now c.args.lore.now c.args.table.now c.requires.lent.0
+loop-r-init c = start_state c.args.file.now c.args.lore.now.entries c.args.table.now c.requires.lent.0
 
 pub walk_round-walked-requires : goal.walk_round-walked-requires
 walk_round-walked-requires c =
     let f = c.args.file.now in
-    let lore = c.args.lore.now in
+    let lore = c.args.lore.now.entries in
     let sound = c.requires.file_value in
     let whole = shape_sound f c.args.shape sound in
     let part = part_viewed c.args.shape c.of.ensures c.templates-rules.ensures in
     let state = c.loop-r.invariant in
     let round = next_round c.loop-r.r c.loop-r.prev c.loop-r.n in
     record {
-      lore = file_lore f lore whole c.requires.lore_of;
       rules_in_range = part_in_range f sound part;
       shares = of_part f sound part (λ rules. Shares rules c.args.shares.now) c.requires.shares;
       rules_len_bound = part_few f sound part;

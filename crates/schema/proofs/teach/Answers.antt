@@ -9,9 +9,9 @@ teach-requires c =
     let endings = rw c.of-view.ensures at c.endings.ensures in
     record {
       states_le_most_states = teach_few file c.args.shape c.requires.file_value _ c.from.ensures;
-      rules_below = teach_rules_below file c.args.shape c.requires.file_value _ schema;
-      names_below = teach_names_below file c.args.shape c.requires.file_value _ schema;
-      ends_below = teach_ends_below file c.args.shape c.requires.file_value _ endings;
+      rules_below = teach_rules_below file c.args.shape c.requires.file_value _ c.from.ensures _ schema;
+      names_below = teach_names_below file c.args.shape c.requires.file_value _ c.from.ensures _ schema;
+      ends_below = teach_ends_below file c.args.shape c.requires.file_value _ c.from.ensures _ endings;
       lore_value = c.requires.lore_value;
     }
 

@@ -2,16 +2,13 @@
 -- Assumes nothing.
 use Rattle.std.proofs.lemmas.Result.{err_from_is_err_and}
 use Rattle.template.proofs.ShapeLaws.{read_is}
-use Rattle.summary.proofs.FragmentLaws.{taught_lore, says_bad, says_found}
+use Rattle.summary.proofs.FragmentLaws.{says_bad, says_found}
 use Rattle.summary.proofs.fragment_under.Goals as goal
 
 pub returns-in_err-shape : goal.returns-in_err-shape
 returns-in_err-shape c =
     let p = err_from_is_err_and c.from_residual.result c.from_residual.ensures.1 in
     rw (p.1, p.2) (says_bad _ c.args.bytes.now _ (read_is _ _ _ c.read.ensures c.in_err-shape.was))
-
-pub summarise-requires : goal.summarise-requires
-summarise-requires c = taught_lore _ _ (read_is _ _ _ c.read.ensures c.in_ok-shape.was) _ c.teach.ensures
 
 pub returns-in_err-s : goal.returns-in_err-s
 returns-in_err-s c =

@@ -8,7 +8,6 @@ use Rattle.summary.proofs.summarise.Goals as goal
 pub read_bytes-requires : goal.read_bytes-requires
 read_bytes-requires c =
     record {
-      lore = search finds_turns;
       holds = empty_holds _ _ c.put_piece.ensures (rw c.empty.ensures (omega arith));
       values_value = empty_first _ _ c.put_piece.ensures ∙ c.empty.ensures;
     }

@@ -6,7 +6,7 @@ use Prim.Native.Nat.{ℕ}
 use native.Mathlib.Omega.{arith}
 use lib.ListN.{get_or}
 use Rattle.hedge.specs.Schema.{most_states}
-use Rattle.lore.specs.Lore.{IsLore}
+use Rattle.lore.specs.Lore.{Known}
 use Rattle.useful.specs.Marks.{RulesInRange}
 use Rattle.shares.specs.Shares.{Shares}
 use Rattle.walk.proofs.PlaceLaws.{LentParts, AtRule, going_start}
@@ -15,7 +15,7 @@ use Rattle.walk.proofs.RoundLaws.{news_room, left_choosable, right_choosable, af
 use Rattle.walk.proofs.walk_round.Invariants.{parts_of}
 use Rattle.walk.proofs.walk_round.Goals as goal
 
-lent : {lore rules shares : List ℕ} → IsLore most_states lore → RulesInRange rules → Shares rules shares → LentParts lore rules shares
+lent : {lore rules shares : List ℕ} → Known most_states lore → RulesInRange rules → Shares rules shares → LentParts lore rules shares
 lent l r s = record { is_lore = l; in_range = r; all_shares = s }
 
 pub news-fresh-requires : goal.news-fresh-requires
@@ -27,11 +27,11 @@ loop-i-init c =
 
 pub loop-i-preserved-then-marks-eq0 : goal.loop-i-preserved-then-marks-eq0
 loop-i-preserved-then-marks-eq0 c =
-    rule_passed c.loop-i.invariant (lent c.requires.lore c.requires.rules_in_range c.requires.shares) c.if-marks-eq0.true
+    rule_passed c.loop-i.invariant (lent c.args.lore.now.known c.requires.rules_in_range c.requires.shares) c.if-marks-eq0.true
 
 pub loop-j-init : goal.loop-j-init
 loop-j-init c =
-    let known = lent c.requires.lore c.requires.rules_in_range c.requires.shares in
+    let known = lent c.args.lore.now.known c.requires.rules_in_range c.requires.shares in
     let rule : AtRule c.args.rules.now c.args.round c.news-fresh.result c.loop-i.i (
     parts_of (get_or c.args.shares.now c.loop-i.i 0) c.slot-left.result c.slot-right.result c.lefts_of-lefts.result
     c.choices-rights.result c.new_from-new_left.result c.new_from-new_right.result) =
@@ -50,23 +50,22 @@ loop-j-init c =
 
 pub right_from-k-requires : goal.right_from-k-requires
 right_from-k-requires c =
-    left_choosable (lent c.requires.lore c.requires.rules_in_range c.requires.shares) c.loop-j.invariant.0 c.loop-j.invariant.1
+    left_choosable (lent c.args.lore.now.known c.requires.rules_in_range c.requires.shares) c.loop-j.invariant.0 c.loop-j.invariant.1
     c.loop-j-test.true
 
 pub loop-k-init : goal.loop-k-init
 loop-k-init c = (
   c.loop-j.invariant.0,
-  right_start c.loop-j.invariant.1 (lent c.requires.lore c.requires.rules_in_range c.requires.shares) c.loop-j.invariant.0
+  right_start c.loop-j.invariant.1 (lent c.args.lore.now.known c.requires.rules_in_range c.requires.shares) c.loop-j.invariant.0
       refl _ c.right_from-k.ensures,
 )
 
 pub one_turn-requires : goal.one_turn-requires
 one_turn-requires c =
-    let known = lent c.requires.lore c.requires.rules_in_range c.requires.shares in
+    let known = lent c.args.lore.now.known c.requires.rules_in_range c.requires.shares in
     let (rule, going) = c.loop-k.invariant in
     let proper = going.sofar.grown.proper_rows in
     record {
-      lore = c.requires.lore;
       choosable = left_choosable known rule going c.loop-j-test.true;
       choosable_2 = right_choosable known rule going c.loop-k-test.true;
       table_long_in_bounds = proper.room;
@@ -76,26 +75,26 @@ one_turn-requires c =
 pub loop-k-preserved : goal.loop-k-preserved
 loop-k-preserved c = (
   c.loop-k.invariant.0,
-  after_turn (lent c.requires.lore c.requires.rules_in_range c.requires.shares) c.loop-k.invariant.0 c.loop-k.invariant.1
+  after_turn (lent c.args.lore.now.known c.requires.rules_in_range c.requires.shares) c.loop-k.invariant.0 c.loop-k.invariant.1
       c.loop-j-test.true c.loop-k-test.true c.in-Some.ensures,
 )
 
 pub loop-j-preserved : goal.loop-j-preserved
 loop-j-preserved c = (
   c.loop-j.invariant.0,
-  right_end c.loop-k.invariant.1 (lent c.requires.lore c.requires.rules_in_range c.requires.shares) c.loop-j.invariant.0
+  right_end c.loop-k.invariant.1 (lent c.args.lore.now.known c.requires.rules_in_range c.requires.shares) c.loop-j.invariant.0
       c.loop-k-test.false,
 )
 
 pub loop-i-preserved : goal.loop-i-preserved
 loop-i-preserved c =
-    left_end c.loop-j.invariant.1 (lent c.requires.lore c.requires.rules_in_range c.requires.shares) c.loop-j.invariant.0
+    left_end c.loop-j.invariant.1 (lent c.args.lore.now.known c.requires.rules_in_range c.requires.shares) c.loop-j.invariant.0
     c.loop-j-test.false refl
 
 pub returns-in_default : goal.returns-in_default
 returns-in_default c =
-    after_turn (lent c.requires.lore c.requires.rules_in_range c.requires.shares) c.loop-k.invariant.0 c.loop-k.invariant.1
+    after_turn (lent c.args.lore.now.known c.requires.rules_in_range c.requires.shares) c.loop-k.invariant.0 c.loop-k.invariant.1
     c.loop-j-test.true c.loop-k-test.true c.in_default.ensures
 
 pub returns-after-loop-i : goal.returns-after-loop-i
-returns-after-loop-i c = walk_end c.loop-i.invariant (lent c.requires.lore c.requires.rules_in_range c.requires.shares) c.loop-i-test.false
+returns-after-loop-i c = walk_end c.loop-i.invariant (lent c.args.lore.now.known c.requires.rules_in_range c.requires.shares) c.loop-i-test.false

@@ -25,14 +25,14 @@ parts_of marks left right lefts rights new_left new_right =
 abbrev pub invariant-loop-k : goal.invariant-loop-k
 invariant-loop-k l =
     AtRule l.rules (round_of l.prev l.n l.first) l.fresh l.i (parts_of l.marks l.left l.right l.lefts l.rights l.new_left l.new_right)
-    × Going l.lore l.rules (round_of l.prev l.n l.first) l.fresh l.fn.table (place l.i l.j l.k l.table l.found)
+    × Going l.lore.entries l.rules (round_of l.prev l.n l.first) l.fresh l.fn.table (place l.i l.j l.k l.table l.found)
 
 -- at this left choice
 abbrev pub invariant-loop-j : goal.invariant-loop-j
 invariant-loop-j l =
     AtRule l.rules (round_of l.prev l.n l.first) l.fresh l.i (parts_of l.marks l.left l.right l.lefts l.rights l.new_left l.new_right)
-    × Going l.lore l.rules (round_of l.prev l.n l.first) l.fresh l.fn.table (place l.i l.j 0 l.table l.found)
+    × Going l.lore.entries l.rules (round_of l.prev l.n l.first) l.fresh l.fn.table (place l.i l.j 0 l.table l.found)
 
 -- before this rule
 abbrev pub invariant-loop-i : goal.invariant-loop-i
-invariant-loop-i l = Going l.lore l.rules (round_of l.prev l.n l.first) l.fresh l.fn.table (place l.i 0 0 l.table l.found)
+invariant-loop-i l = Going l.lore.entries l.rules (round_of l.prev l.n l.first) l.fresh l.fn.table (place l.i 0 0 l.table l.found)
