@@ -22,7 +22,7 @@ use Rattle.hedge.specs.Operations.{ended, one_pair, fires, wrapped, relation, co
 use Rattle.numbers.proofs.TestLaws.{ext_true, any_in, any_out}
 use Rattle.hedge.proofs.RelationLaws.{relation_cong, relation_none, relation_or}
 use Rattle.hedge.proofs.NumberLaws.{relations_laws, within_wrap}
-use Rattle.lore.specs.Lore.{lore_long, marked, reads, outer, leaf_of, place_of, NamesBelow, Masks, Taught, Known}
+use Rattle.lore.specs.Lore.{lore_long, marked, reads, outer, leaf_of, place_of, NamesBelow, Masks, Taught, IsLore, Known}
 use Rattle.lore.specs.Lore.{states_in, ending_bits, empty_in, meets, met_entry, joined, taught_wrap, taught_accepts, taught}
 use Rattle.lore.proofs.MeetLaws.{off, meets_ended}
 
@@ -196,6 +196,10 @@ module _ (q : ℕ) (rules ends lore : List ℕ) (few : q ≤ most_states) (rules
         unnamed = λ a r h. unnamed_wrap most_states lore a r t.masks.long h;
         within = λ a r. rw (t.states, lore_wrap a r) (within_wrap most_states q few rules ends rules_below ends_below a r);
       }
+
+-- whatever schema it is the lore of
+pub lore_known : (lore : List ℕ) → IsLore most_states lore → Known most_states lore
+lore_known lore k = known_lore k.states k.rules k.ends lore k.few k.rules_below k.names_below k.ends_below k.taught
 
 -- ---- of a lore that a call is given
 

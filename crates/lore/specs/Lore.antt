@@ -9,6 +9,7 @@ use Rattle.numbers.specs.Fields.{field}
 use Rattle.words.specs.Tags.{most_names}
 use Rattle.words.specs.Binoid.{Binoid}
 use Rattle.hedge.specs.Relation.{Within}
+use Rattle.hedge.specs.Schema.{RulesBelow, EndsBelow}
 use Rattle.hedge.specs.Operations.{one_pair, relation, unit, compose}
 
 -- ---- limits
@@ -78,6 +79,17 @@ pub record Taught (K q : ℕ) (rules ends lore : List ℕ) : Type 0 where
   pub empty : empty_in lore ≡ unit K q
   pub masks : Masks K rules (length rules / 4) lore
   pub leaves : Leaves K (ending_bits lore) (empty_in lore) rules (length rules / 4) lore
+
+-- the lore of some schema of at most K states
+pub record IsLore (K : ℕ) (lore : List ℕ) : Type 0 where
+  pub states : ℕ
+  pub rules : List ℕ
+  pub ends : List ℕ
+  pub few : states ≤ K
+  pub rules_below : RulesBelow states rules
+  pub names_below : NamesBelow most_names rules
+  pub ends_below : EndsBelow states ends
+  pub taught : Taught K states rules ends lore
 
 -- ---- the operations, read off the lore
 

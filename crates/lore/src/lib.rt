@@ -134,7 +134,7 @@ fn put_head(lore: &mut [u64; LORE], states: usize, marks: u64, empty: u64)
 }
 
 // The whole schema, into a table of zeros.
-fn teach_all(rules: &[u8], ends: &[u8], states: usize, lore: &mut [u64; LORE])
+pub fn teach(rules: &[u8], ends: &[u8], states: usize, lore: &mut [u64; LORE])
     requires states_le_most_states { states ≤ most_states }
     requires rules_below { RulesBelow most_states rules.now }
     requires names_below { NamesBelow most_names rules.now }
@@ -167,7 +167,7 @@ impl Lore {
         requires lore_value { self.old.entries ≡ zeros (lore_long most_states) }
         ensures { Taught most_states states rules.now ends.now self.new.entries }
     {
-        teach_all(rules, ends, states, &mut self.entries);
+        teach(rules, ends, states, &mut self.entries);
     }
 
     // The relation of the empty word.
