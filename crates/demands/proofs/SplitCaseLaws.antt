@@ -1,5 +1,6 @@
 -- The file that section 13 splits (specs/Cases.antt). That it is sound, that its parts fit, and that the file of its sorted parts is the one
 -- stated are computed; that file is the ordinary one (long's `written_shortens`), and the promise allows one reply. Assumes nothing.
+use Rattle.std.proofs.lemmas.Bool.{and_parts}
 use mathlib.Core.Path.{◌≡◌, refl, sym, subst}
 use mathlib.Core.Bool.{Bool, true, ◌&&◌}
 use mathlib.Core.List.{List, [], ◌∷◌, ◌++◌}
@@ -8,7 +9,6 @@ use native.Mathlib.Omega.{arith}
 use lib.Dec.{ltb}
 use lib.ListN.{length, drop}
 use borrow.Author.Tests.{ltb-true, leb-true}
-use Rattle.numbers.proofs.TestLaws.{and_out}
 use Rattle.rows.specs.Tables.{order, flat, before, put_in, sort_into, sorted}
 use Rattle.entries.specs.Tests.{first_fault}
 use Rattle.entries.specs.Entries.{symbol_tests, field_tests, width, precedes, ascends, entry_tests, body_tests}
@@ -32,8 +32,8 @@ all_bytes (x ∷ xs) = ltb x 256 && all_bytes xs
 all-bytes : (xs : List ℕ) → all_bytes xs ≡ true → Bytes xs
 unfolding all_bytes
 all-bytes [] e i = omega arith
-all-bytes (x ∷ xs) e zero = ltb-true x 256 (and_out (ltb x 256) e).0
-all-bytes (x ∷ xs) e (suc i) = all-bytes xs (and_out (ltb x 256) e).1 i
+all-bytes (x ∷ xs) e zero = ltb-true x 256 (and_parts (ltb x 256) _ e).0
+all-bytes (x ∷ xs) e (suc i) = all-bytes xs (and_parts (ltb x 256) _ e).1 i
 
 bytes : Bytes long_case
 unfolding all_bytes long_case

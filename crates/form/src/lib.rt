@@ -80,7 +80,7 @@ fn take_tag(
         × (values.new ≡ put_piece (put_piece values.old n zero_piece) (n - 1) value) }
 {
     names[n - 1] = 0;
-    pieces::put_piece(values, n, pieces::no_piece());
+    pieces::put_piece(values, n, pieces::Piece::NONE);
     pieces::put_piece(values, n - 1, value);
 }
 

@@ -156,5 +156,3 @@ bit_pow (suc i) zero = bit_digit (2 ^ suc i) 0 false (rw pow-suc (omega arith)) 
 bit_pow (suc i) (suc k) = rw (bit_suc, pow-suc, mul-div_cancel (2 ^ i) {n = 2} (omega arith), bit_pow i k, eqb-suc-suc)
 
 -- 1 << k in a word of n bits
-pub shl_one : (k n : ℕ) → k < n → (1 * 2 ^ k) % 2 ^ n ≡ 2 ^ k
-shl_one k n h = shl_exact {a = 1} 1 k n (omega arith) (omega arith) ∙ one-mul (2 ^ k)

@@ -1,5 +1,6 @@
 -- Tests as Bool: taking `&&`, `||` and `any` apart and putting them together. A fact is written `b ≡ true`. The laws of `any` go by
 -- induction on the bound, one number more at a time. Assumes nothing.
+use Rattle.std.proofs.lemmas.Bool.{or_cases}
 use mathlib.Core.Path.{◌≡◌, refl, sym}
 use mathlib.Core.Logic.{◌↔◌, ◌⊎◌, inl, inr, ⊎_elim}
 use mathlib.Core.Bool.{Bool, true, false, false≢true, or-true, ◌&&◌, ◌||◌}
@@ -17,14 +18,6 @@ ext_true {a = true} {b} e = sym (e.0 refl)
 ext_true {a = false} {b = true} e = e.1 refl
 ext_true {a = false} {b = false} e = refl
 
-pub and_out : (a : Bool) {b : Bool} → (a && b) ≡ true → (a ≡ true) × (b ≡ true)
-and_out true t = (refl, t)
-and_out false t = absurd (false≢true t)
-
-pub or_out : (a : Bool) {b : Bool} → (a || b) ≡ true → (a ≡ true) ⊎ (b ≡ true)
-or_out true t = inl refl
-or_out false t = inr t
-
 -- ---- some number below n
 
 pub any_in : (n : ℕ) (f : ℕ → Bool) (k : ℕ) → k < n → f k ≡ true → any n f ≡ true
@@ -40,4 +33,4 @@ pub any_out : (n : ℕ) (f : ℕ → Bool) → any n f ≡ true → (k : ℕ) ×
 unfolding any
 any_out zero f t = absurd (false≢true t)
 any_out (suc n) f t =
-    ⊎_elim (λ s. let (k, h, u) = any_out n f s in (k, omega arith, u)) (λ s. (n, omega arith, s)) (or_out (any n f) t)
+    ⊎_elim (λ s. let (k, h, u) = any_out n f s in (k, omega arith, u)) (λ s. (n, omega arith, s)) (or_cases (any n f) _ t)

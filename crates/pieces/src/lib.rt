@@ -59,13 +59,6 @@ pub fn put_piece(pieces: &mut [u64; PIECES], k: usize, p: Piece)
     pieces[at + 1] = p.outermost;
 }
 
-// What stands at an unused place.
-pub fn no_piece() -> Piece
-    ensures { result ≡ zero_piece }
-{
-    Piece::NONE
-}
-
 // Is it what stands at an unused place?
 #[tactic(auto, unfolding(crate::specs::Pieces::is_none))]
 pub fn is_none(p: Piece) -> bool
@@ -89,7 +82,10 @@ pub fn empty(lore: &lore::Lore) -> Piece
 fn added(m: u64, n: u64) -> u64
     ensures { result ≡ at_most_several (m + n) }
 {
-    m.saturating_add(n).min(SEVERAL)
+    if SEVERAL <= m || SEVERAL <= n {
+        return SEVERAL;
+    }
+    m + n
 }
 
 // That of two words in a row.

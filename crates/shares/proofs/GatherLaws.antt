@@ -1,6 +1,7 @@
 -- The functions in the words of the code, for `search sharing`: the tests of a rule's fields and of its two sides; after h turns of the
 -- inner loop the marks are the left sides of the useful rules below h with the right side of rule i, and none of these comes before rule i;
 -- after i turns of the outer one the table has the marks of the rules below i. Assumes nothing.
+use Rattle.std.proofs.lemmas.Bool.{and_parts, or_cases}
 use mathlib.Core.Path.{◌≡◌, refl, sym, ◌∙◌}
 use mathlib.Core.Bool.{Bool, true, false, false≢true, or-true, not, ◌&&◌}
 use mathlib.Core.List.{List, [], ◌∷◌}
@@ -15,7 +16,6 @@ use borrow.Author.Rules.{rules}
 use borrow.Author.Tests.{eqb-true, eq-eqb, not-true, not-false}
 use Rattle.numbers.specs.Fields.{field}
 use Rattle.numbers.specs.Bits.{bit}
-use Rattle.numbers.proofs.TestLaws.{and_out, or_out}
 use Rattle.template.specs.Layout.{most_rules}
 use Rattle.template.specs.Grammar.{right_side, Gives}
 use Rattle.trees.specs.Trees.{Productive, Useful}
@@ -61,7 +61,7 @@ module _ (rules : List ℕ) where
     useful_told productive useful t s derive marks e test =
         let told : (t ≡ true) ↔ Useful (Gives rules) (field rules i 0) =
         rw (e, left) (marks (field rules i 0) (in_range.left_below i l)) in (
-          λ both. let (p, q) = and_out t both in
+          λ both. let (p, q) = and_parts t _ both in
               (told.0 p, right_productive rules in_range i l productive derive (test.0 q)),
           λ (u, d). rw (told.1 u, test.1 (right_marked rules in_range i l productive derive d)),
         )
@@ -135,7 +135,7 @@ module _ (rules : List ℕ) where
                   (λ q.
                   let d = eqb-true x v q in
                   (h, omega arith, sym (d ∙ e), is-useful, same))
-                  (or_out (bit marks x) (rw (w, mark_bit marks v x) at b)),
+                  (or_cases (bit marks x) _ (rw (w, mark_bit marks v x) at b)),
               λ (g, k, e', u, s). rw (w, mark_bit marks v x)
                   (⊎_elim
                   (λ k. rw ((so_far.members x l).1 (g, k, e', u, s)))

@@ -1,5 +1,6 @@
 -- The test of every place, as a loop carries it out: none, next, end, and the first place that fails; and the test of one place, by
 -- whether it is in use. Then what the whole test says, by induction on the bound. Assumes nothing.
+use Rattle.std.proofs.lemmas.Bool.{and_parts}
 use mathlib.Core.Path.{◌≡◌, refl}
 use mathlib.Core.Bool.{Bool, true, false, and-false}
 use mathlib.Core.List.{List}
@@ -13,7 +14,6 @@ use lib.ListN.{get_or}
 use borrow.Author.Tests.{lt-ltb, le-ltb, le-leb, lt-leb}
 use Rattle.pieces.specs.declared.Piece.{Piece}
 use Rattle.pieces.specs.Pieces.{piece_at, fits_in, is_none}
-use Rattle.numbers.proofs.TestLaws.{and_out}
 use Rattle.summary.specs.Packing.{every, name_fits, piece_fits}
 
 -- ---- the loop
@@ -65,7 +65,7 @@ pub every_out : (n : ℕ) (f : ℕ → Bool) → every n f ≡ true → (k : ℕ
 unfolding every
 every_out zero f t k h = absurd (not-suc-le-zero h)
 every_out (suc n) f t k h =
-    let (s, u) = and_out (every n f) t in
+    let (s, u) = and_parts (every n f) _ t in
     elim (dec_lt k n) [
       | yes l ↦ every_out n f s k l
       | no l ↦ let e : k ≡ n = omega arith in rw e u

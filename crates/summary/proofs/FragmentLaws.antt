@@ -7,8 +7,6 @@ use native.Mathlib.Omega.{arith}
 use lib.ListN.{replicate}
 use borrow.Author.Rules.{rules}
 use Rattle.std.specs.Prelude.{Result, Ok, Err}
-use Rattle.hedge.specs.Schema.{most_states}
-use Rattle.lore.specs.Lore.{Known}
 use Rattle.pieces.specs.declared.Piece.{Piece}
 use Rattle.pieces.specs.Pieces.{most_tags, pieces_long, piece_at, put_piece, lifted, pieces, Counted}
 use Rattle.pieces.proofs.PieceLaws.{piece_same}

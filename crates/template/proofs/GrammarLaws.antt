@@ -2,6 +2,7 @@
 -- two like): so the schema's states, its names and its ending states are below Q, A and Q. A template rule has its left side below N, at
 -- most as many symbols as it has places for, and each is a tag (its name below A) or a nonterminal (below N): a byte that passes `is_symbol`
 -- stands for such a symbol, by its three cases. Where a rule has two places, they go by the rule's length. Assumes nothing.
+use Rattle.std.proofs.lemmas.Bool.{and_parts, or_cases}
 use mathlib.Core.Path.{◌≡◌}
 use mathlib.Core.Logic.{⊎_elim}
 use mathlib.Core.Bool.{true, ◌&&◌}
@@ -20,7 +21,6 @@ use Rattle.entries.specs.declared.Body.TheVariants.{Templates, Schema, Endings}
 use Rattle.template.specs.Layout.{name_count, nonterminals, states, rule_count, schema_count, ending_count, schema_start_of, ending_start_of}
 use Rattle.template.specs.Layout.{template_rules, schema_rules_of, ending_states_of}
 use Rattle.template.specs.Grammar.{Symbol, tag, nonterminal, symbol_of, right_side, Gives}
-use Rattle.numbers.proofs.TestLaws.{and_out, or_out}
 use Rattle.entries.proofs.RuleLaws.{symbol_at, rule_holds}
 use Rattle.template.proofs.SoundLaws.{SoundFileOf, SoundFile}
 use Rattle.template.proofs.ListLaws.{rules_count, schema_rules_count, endings_length, rules_field, schema_rules_field, endings_at}
@@ -41,7 +41,7 @@ SymbolsBelow A N (x ∷ xs) = SymbolBelow A N x × SymbolsBelow A N xs
 
 -- the symbol of a byte
 range_true : (low b high : ℕ) → (leb low b && ltb b high) ≡ true → (low ≤ b) × (b < high)
-range_true low b high e = let p = and_out (leb low b) e in (leb-true low b p.0, ltb-true b high p.1)
+range_true low b high e = let p = and_parts (leb low b) _ e in (leb-true low b p.0, ltb-true b high p.1)
 
 start_below : (A N b : ℕ) → A ≤ 32 → b < A → SymbolBelow A N (symbol_of b)
 unfolding symbol_of
@@ -61,8 +61,8 @@ symbol_below A N b h e =
     let is-nonterminal = leb 64 b && ltb b (64 + N) in
     ⊎_elim (λ k. start_below A N b h (ltb-true b A k))
     (λ k. ⊎_elim (λ p. end_below A N b h (range_true 32 b (32 + A) p)) (λ p. nonterminal_below A N b (range_true 64 b (64 + N) p))
-    (or_out is-end k))
-    (or_out (ltb b A) e)
+    (or_cases is-end _ k))
+    (or_cases (ltb b A) _ e)
 
 -- the symbols of two bytes, of which the first n count
 symbols_below : (A N n x y : ℕ) → A ≤ 32 → n ≤ 2 → symbol_holds (ltb 0 n) A N x ≡ true → symbol_holds (ltb 1 n) A N y ≡ true

@@ -1,5 +1,6 @@
 -- Sound files, whatever the number of symbols of a template rule. What reading answers says that no test has a fault, so all of them
 -- hold; the record `SoundFileOf` says this once in the file's own numbers. The tests of the head and the contents are read off one by one, and back. Assumes nothing.
+use Rattle.std.proofs.lemmas.Bool.{and_parts}
 use mathlib.Core.Path.{◌≡◌, refl}
 use mathlib.Core.Bool.{true}
 use mathlib.Core.List.{List, ◌++◌}
@@ -20,7 +21,6 @@ use Rattle.template.specs.Order.{between, head_tests, contents_tests, body, bodi
 use Rattle.template.specs.Order.{reading_of, reading}
 use Rattle.template.specs.declared.Shape.{Shape}
 use Rattle.entries.proofs.OrderLaws.{ok_holds, first_append_ok, ok_append}
-use Rattle.numbers.proofs.TestLaws.{and_out}
 
 -- what reading answers
 
@@ -67,7 +67,7 @@ SoundFile = SoundFileOf rule_symbols
 
 between_true : (low x high : ℕ) → between low x high ≡ true → (low ≤ x) × (x ≤ high)
 between_true low x high e =
-    let h = and_out (leb low x) e in
+    let h = and_parts (leb low x) _ e in
     (leb-true low x h.0, leb-true x high h.1)
 
 pub sound_file_of : (symbols : ℕ) (f : List ℕ) → SoundOf symbols f → SoundFileOf symbols f

@@ -10,7 +10,8 @@ use lib.Bits.{bit_or}
 use borrow.Author.Rules.{rules}
 use borrow.Author.Tests.{eqb-true}
 use Rattle.numbers.specs.Bits.{bit}
-use Rattle.numbers.proofs.BitLaws.{bit_past, bit_pow, shl_one}
+use Rattle.std.proofs.lemmas.Nat.{one_shl}
+use Rattle.numbers.proofs.BitLaws.{bit_past, bit_pow}
 use Rattle.template.specs.Grammar.{Gives}
 use Rattle.trees.specs.Trees.{Reached, start_reached}
 use Rattle.trees.proofs.MarkLaws.{HasTree, productive_each, all_map, marked_productive, marks_productive, marks_reached}
@@ -25,7 +26,7 @@ use Rattle.useful.proofs.StepLaws.{step_down_on, step_down_left_off, step_down_r
 
 pub mark_value : (marks x : ℕ) → x < 64 → bit_or marks ((1 * 2 ^ x) % 2 ^ 64) ≡ with_mark marks x
 unfolding with_mark
-mark_value marks x h = rw (shl_one x 64 h)
+mark_value marks x h = rw (one_shl x 64 h)
 
 module _ (rules : List ℕ) where
   -- ---- upward: at first nothing is marked

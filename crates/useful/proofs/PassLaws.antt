@@ -1,6 +1,7 @@
 -- Steps of a pass (`Passed` of specs/Marks.antt): two in a row are one that keeps both, since marks that end where they began never grew
 -- in between; so steps at one rule after the other make a pass. Setting a mark is a step, and so is marking the symbol of a place: bit
 -- by bit, from the bits of a union and of a power. Assumes nothing.
+use Rattle.std.proofs.lemmas.Bool.{or_cases}
 use mathlib.Core.Path.{◌≡◌, refl}
 use mathlib.Core.Logic.{⊎_elim}
 use mathlib.Core.Bool.{Bool, true, false, or-true, ◌||◌}
@@ -12,7 +13,6 @@ use lib.Bits.{or_add_and, and_le_r}
 use lib.Dec.{eqb}
 use borrow.Author.Tests.{eqb-true, eq-eqb, lt-ltb, le-leb, lt-leb}
 use Rattle.numbers.specs.Bits.{bit}
-use Rattle.numbers.proofs.TestLaws.{or_out}
 use Rattle.numbers.proofs.BitLaws.{bit-or, bit_pow}
 use Rattle.useful.specs.Marks.{StepsTo, Justified, Passed, KeptBelow, at_slot, with_mark, with_slot}
 use Rattle.useful.proofs.SlotLaws.{Marked, Slot, slot_unused}
@@ -85,7 +85,7 @@ module _ (P : ℕ → Type 0) where
         grow = mark_grows marks x;
         justified = λ f. record {
           reason = λ k m.
-              ⊎_elim (f.reason k) (λ e. rw (eqb-true k x e) (p f)) (or_out (bit marks k) (rw (mark_bit marks x k) at m));
+              ⊎_elim (f.reason k) (λ e. rw (eqb-true k x e) (p f)) (or_cases (bit marks k) _ (rw (mark_bit marks x k) at m));
         };
         kept = λ e. rw e at (mark_set marks x);
       }

@@ -1,6 +1,7 @@
 -- What a step at one rule finds, in the words in which the code has it. Upward: the left side of a rule derives a string where each
 -- nonterminal of its right side does. Downward: the nonterminals of a rule that is reached and derives some string are reached. Where a
 -- test fails there is nothing to keep. Assumes nothing.
+use Rattle.std.proofs.lemmas.Bool.{and_parts}
 use mathlib.Core.Path.{◌≡◌, refl, sym, ◌∙◌}
 use mathlib.Core.Logic.{◌↔◌}
 use mathlib.Core.Bool.{Bool, true, false, false≢true, ◌&&◌}
@@ -12,7 +13,6 @@ use lib.ListN.{length}
 use borrow.Author.Tests.{ltb-true}
 use Rattle.numbers.specs.Fields.{field}
 use Rattle.numbers.specs.Bits.{bit}
-use Rattle.numbers.proofs.TestLaws.{and_out}
 use Rattle.template.specs.Grammar.{right_side, Gives}
 use Rattle.trees.specs.Trees.{AllProductive, Reached}
 use Rattle.trees.proofs.MarkLaws.{AllNonterminals, all_map, all_both, HasTree, all_productive, productive_each, rule_all_reached, mark_productive}
@@ -49,7 +49,7 @@ module _ (rules : List ℕ) (in_range : RulesInRange rules) (i : ℕ) (hi : i < 
       let slots = right_slots (Marked marks) rules i in
       let each = marked_each marks (right_side rules i) in
       rw (es, et, en, eb, ed) (
-        λ e. let (p, q) = and_out (slot_marked (ltb 0 (field rules i 1)) (field rules i 2) marks) e in
+        λ e. let (p, q) = and_parts (slot_marked (ltb 0 (field rules i 1)) (field rules i 2) marks) _ e in
             each.1 (slots.1 (first.0 p, second.0 q)),
         λ a. let (p, q) = slots.0 (each.0 a) in rw (first.1 p, second.1 q),
       )
