@@ -2,11 +2,12 @@
 #![tactic(auto)]
 
 ghost use Rattle.std.specs.Prelude.{◌≡◌, Ok};
-ghost use Rattle.template.specs.Order.{reading};
 ghost use Rattle.form.specs.Held.{form_of, last_of, Holds};
 ghost use Rattle.form.specs.Endings.{ending_of};
 ghost use Rattle.page.specs.declared.PageRefusal.TheVariants.{BadFile};
 ghost use Rattle.page.specs.Pages.{PageSays, stopped, flawed, tested, answer, number};
+
+use template::Sound;
 
 // Why a page is not valid, with the place of the fault.
 #[derive(Clone, Copy, Debug, PartialEq, Eq)]
@@ -61,14 +62,13 @@ fn tested(lore: &lore::Lore, s: form::Summary) -> Result<(), PageRefusal>
     Ok(())
 }
 
-// Reads a page under a sound file of these numbers.
-fn read_under(file: &[u8], shape: template::Shape, bytes: &[u8]) -> Result<(), PageRefusal>
-    requires { reading file.now ≡ Ok shape }
-    ensures { PageSays file.now bytes.now result }
+// Reads a page under a sound file.
+fn read_under(sound: Sound<'_>, bytes: &[u8]) -> Result<(), PageRefusal>
+    ensures { PageSays sound.entry.file.now bytes.now result }
 {
     let mut lore = lore::Lore::untaught();
-    schema::teach(file, shape, &mut lore);
-    let s = summary::summarise(&lore, shape.names, bytes)?;
+    schema::teach(sound, &mut lore);
+    let s = summary::summarise(&lore, sound.shape.names, bytes)?;
     tested(&lore, s)
 }
 
@@ -76,8 +76,7 @@ fn read_under(file: &[u8], shape: template::Shape, bytes: &[u8]) -> Result<(), P
 pub fn read(file: &[u8], bytes: &[u8]) -> Result<(), PageRefusal>
     ensures { PageSays file.now bytes.now result }
 {
-    let shape = template::read(file)?;
-    read_under(file, shape, bytes)
+    read_under(Sound::read(file)?, bytes)
 }
 
 // The reply in numbers (Rules, section 9).

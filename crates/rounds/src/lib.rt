@@ -3,7 +3,6 @@
 
 ghost use Rattle.std.specs.Prelude.{◌≡◌, ◌≤◌, length, Ok};
 ghost use Rattle.template.specs.Layout.{template_rules};
-ghost use Rattle.template.specs.Order.{reading};
 ghost use Rattle.schema.specs.Schemas.{LoreOf};
 ghost use Rattle.rows.specs.Tables.{cleared};
 ghost use Rattle.worktable.specs.Packed.{table_long};
@@ -13,6 +12,7 @@ ghost use Rattle.rounds.specs.Checks.{HasPage, Lent, CheckSays};
 ghost use Rattle.rounds.specs.Answers.{answer, number, images};
 ghost use Rattle.rounds.specs.declared.CheckRefusal.TheVariants.{BadFile};
 
+use template::Sound;
 use view::View;
 
 // The most rounds that a budget allows.
@@ -98,21 +98,19 @@ fn wipe(table: &mut [u64])
 
 // Rounds until one decides or the budget is used, over the template rules of a sound file, its taught schema and the rules' shares.
 fn rounds(
-    file: &[u8],
-    shape: template::Shape,
+    sound: Sound<'_>,
     lore: &lore::Lore,
     shares: &[u64; template::RULES],
     table: &mut [u64],
     budget: usize,
 ) -> CheckReply
-    requires file_value { reading file.now ≡ Ok shape }
-    requires lore_of { LoreOf file.now lore.now.entries }
-    requires shares { Shares (template_rules file.now) shares.now }
-    requires has_page { HasPage file.now }
-    requires lent { Lent file.now table.old budget }
-    ensures { CheckSays file.now table.old budget result table.new }
+    requires lore_of { LoreOf sound.file.now lore.now.entries }
+    requires shares { Shares (template_rules sound.file.now) shares.now }
+    requires has_page { HasPage sound.file.now }
+    requires lent { Lent sound.file.now table.old budget }
+    ensures { CheckSays sound.entry.file.now table.old budget result table.new }
 {
-    let rules = View::of(file, shape).templates();
+    let rules = View::of(sound.file, sound.shape).templates();
     let mut prev = 0;
     let mut n = 0;
     for r in 0..budget {
@@ -144,13 +142,12 @@ fn rounds(
     Err(CheckRefusal::OutOfRounds(budget))
 }
 
-// Checks a sound file of these numbers. What does not change between rounds is found here, once.
-fn check_sound(file: &[u8], shape: template::Shape, table: &mut [u64], budget: usize) -> CheckReply
-    requires file_value { reading file.now ≡ Ok shape }
-    requires lent { Lent file.now table.old budget }
-    ensures { CheckSays file.now table.old budget result table.new }
+// Checks a sound file. What does not change between rounds is found here, once.
+fn check_sound(sound: Sound<'_>, table: &mut [u64], budget: usize) -> CheckReply
+    requires { Lent sound.file.now table.old budget }
+    ensures { CheckSays sound.entry.file.now table.old budget result table.new }
 {
-    let rules = View::of(file, shape).templates();
+    let rules = View::of(sound.file, sound.shape).templates();
     let productive = useful::productive(rules);
     if !useful::marked(productive, 0) {
         return Err(CheckRefusal::NoPage);
@@ -159,8 +156,8 @@ fn check_sound(file: &[u8], shape: template::Shape, table: &mut [u64], budget: u
     let mut shares = [0u64; template::RULES];
     shares::share(rules, productive, useful, &mut shares);
     let mut lore = lore::Lore::untaught();
-    schema::teach(file, shape, &mut lore);
-    rounds(file, shape, &lore, &shares, table, budget)
+    schema::teach(sound, &mut lore);
+    rounds(sound, &lore, &shares, table, budget)
 }
 
 // Checks a template set: the refusals 9, 8, 7 and 6 in this order, and only then the rounds (Rules, section 9).
@@ -173,8 +170,7 @@ pub fn check(file: &[u8], table: &mut [u64], budget: usize) -> CheckReply
     if !(1..=ROUNDS).contains(&budget) {
         return Err(CheckRefusal::BadBudget);
     }
-    let shape = template::read(file)?;
-    check_sound(file, shape, table, budget)
+    check_sound(Sound::read(file)?, table, budget)
 }
 
 // The reply in numbers (Rules, section 9).

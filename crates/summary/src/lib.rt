@@ -16,6 +16,8 @@ ghost use Rattle.summary.specs.Fragments.{FragmentSays, FragmentFinds};
 ghost use Rattle.summary.specs.Joins.{SummaryUnder, JoinSays, DepthSays};
 ghost use Rattle.summary.specs.Answers.{fragment_answer, fragment_number, join_answer, join_number, depth_answer, depth_number, net_depth};
 
+use template::Sound;
+
 // Why a fragment has no summary, with the place of the fault.
 #[derive(Clone, Copy, Debug, PartialEq, Eq)]
 pub enum FragmentRefusal {
@@ -123,11 +125,7 @@ fn reply_of<E>(found: Result<form::Summary, E>) -> Reply<E>
 }
 
 // Reads the bytes under a schema that was taught, where there are `known` names.
-pub fn summarise(
-    lore: &lore::Lore,
-    known: u8,
-    bytes: &[u8],
-) -> Result<form::Summary, reader::Stop>
+pub fn summarise(lore: &lore::Lore, known: u8, bytes: &[u8]) -> Result<form::Summary, reader::Stop>
     ensures { FragmentFinds (Reads known (pieces lore.now.entries) most_tags bytes.now) result }
 {
     let mut names = [0u8; pieces::TAGS];
@@ -145,10 +143,10 @@ pub fn summarise(
 fn fragment_under(file: &[u8], bytes: &[u8]) -> Result<form::Summary, FragmentRefusal>
     ensures { FragmentSays file.now bytes.now (reply_of result) }
 {
-    let shape = template::read(file)?;
+    let sound = Sound::read(file)?;
     let mut lore = lore::Lore::untaught();
-    schema::teach(file, shape, &mut lore);
-    let s = summarise(&lore, shape.names, bytes)?;
+    schema::teach(sound, &mut lore);
+    let s = summarise(&lore, sound.shape.names, bytes)?;
     Ok(s)
 }
 
@@ -209,20 +207,18 @@ fn is_summary(s: form::Summary, known: u8, states: usize) -> bool
     names_fit(&s.names, n, known) && pieces_fit(&s.values, n, states)
 }
 
-// Joins two summaries under a sound file of these numbers.
+// Joins two summaries under a sound file.
 fn join_summaries(
-    file: &[u8],
-    shape: template::Shape,
+    sound: Sound<'_>,
     left: form::Summary,
     right: form::Summary,
 ) -> Result<form::Summary, JoinRefusal>
-    requires file_value { reading file.now ≡ Ok shape }
-    requires summary_under { SummaryUnder file.now left }
-    requires summary_under_2 { SummaryUnder file.now right }
-    ensures { JoinSays file.now left right (reply_of result) }
+    requires summary_under { SummaryUnder sound.file.now left }
+    requires summary_under_2 { SummaryUnder sound.file.now right }
+    ensures { JoinSays sound.entry.file.now left right (reply_of result) }
 {
     let mut lore = lore::Lore::untaught();
-    schema::teach(file, shape, &mut lore);
+    schema::teach(sound, &mut lore);
     let mut names = left.names;
     let mut values = left.values;
     let counts = form::then_form(
@@ -249,14 +245,15 @@ fn join_under(
 ) -> Result<form::Summary, JoinRefusal>
     ensures { JoinSays file.now left right (reply_of result) }
 {
-    let shape = template::read(file)?;
+    let sound = Sound::read(file)?;
+    let shape = sound.shape;
     if !is_summary(left, shape.names, usize::from(shape.states)) {
         return Err(JoinRefusal::NoSummary);
     }
     if !is_summary(right, shape.names, usize::from(shape.states)) {
         return Err(JoinRefusal::NoSummary);
     }
-    join_summaries(file, shape, left, right)
+    join_summaries(sound, left, right)
 }
 
 // The summary of two fragments in a row, from their summaries: 7, 15, 11, 12; else the joined summary.

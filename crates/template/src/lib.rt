@@ -1,7 +1,7 @@
 // The template file: its first fault in the order of reading, its numbers, and its three lists as parts of the lent file.
 #![tactic(auto)]
 
-ghost use Rattle.std.specs.Prelude.{◌≡◌, ◌+◌, ◌*◌, ◌≤◌, ◌<◌, length};
+ghost use Rattle.std.specs.Prelude.{◌≡◌, ◌+◌, ◌*◌, ◌≤◌, ◌<◌, length, Ok, IfOk, IfErr};
 ghost use Rattle.entries.specs.Tests.{test, first_fault};
 ghost use Rattle.entries.specs.Entries.{rule_width};
 ghost use Rattle.template.specs.Layout.{first_body, half_at, bodies_end_of, part_of};
@@ -157,6 +157,25 @@ pub fn read(file: &[u8]) -> Result<Shape, Fault>
     ensures { result ≡ reading file.now }
 {
     read_of(file, SYMBOLS)
+}
+
+// A lent file that is sound, with the numbers that reading it gave.
+#[derive(Clone, Copy, Debug)]
+pub struct Sound<'a> {
+    pub file: &'a [u8],
+    pub shape: Shape,
+    pub ghost is_read: { reading file.now ≡ Ok shape },
+}
+
+impl<'a> Sound<'a> {
+    // Reads a template file, which is kept with its numbers where it is sound: any bytes may be lent.
+    pub fn read(file: &'a [u8]) -> Result<Sound<'a>, Fault>
+        ensures sound { IfOk result (λ s. s.file.now ≡ file.now) }
+        ensures bad { IfErr result (λ fault. reading file.now ≡ Err fault) }
+    {
+        let shape = read(file)?;
+        Ok(Sound { file, shape })
+    }
 }
 
 // The reading in numbers (Rules, section 9): 0, or 7 with the place of the first fault.

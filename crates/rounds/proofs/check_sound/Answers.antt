@@ -8,13 +8,13 @@ use Rattle.rounds.proofs.PartLaws.{part_viewed, of_file, part_in_range, part_few
 use Rattle.rounds.proofs.check_sound.Goals as goal
 
 pub productive-productive-requires : goal.productive-productive-requires
-productive-productive-requires c = part_in_range _ c.requires.file_value (part_viewed c.args.shape c.of.ensures c.templates-rules.ensures)
+productive-productive-requires c = part_in_range _ c.args.sound.is_read (part_viewed c.args.sound.shape c.of.ensures c.templates-rules.ensures)
 
 pub returns-then-not-marked : goal.returns-then-not-marked
 returns-then-not-marked c = (
-  c.requires.lent,
-  shape_sound _ _ c.requires.file_value,
-  unmarked_no_page _ c.requires.file_value (part_viewed c.args.shape c.of.ensures c.templates-rules.ensures) _ c.productive-productive.ensures _ c.marked.ensures
+  c.requires,
+  shape_sound _ _ c.args.sound.is_read,
+  unmarked_no_page _ c.args.sound.is_read (part_viewed c.args.sound.shape c.of.ensures c.templates-rules.ensures) _ c.productive-productive.ensures _ c.marked.ensures
       (rw c.if-not-marked.true),
   refl,
 )
@@ -22,32 +22,31 @@ returns-then-not-marked c = (
 pub reached-useful-requires : goal.reached-useful-requires
 reached-useful-requires c =
     record {
-      rules_in_range = part_in_range _ c.requires.file_value (part_viewed c.args.shape c.of.ensures c.templates-rules.ensures);
+      rules_in_range = part_in_range _ c.args.sound.is_read (part_viewed c.args.sound.shape c.of.ensures c.templates-rules.ensures);
       marks_all = c.productive-productive.ensures;
     }
 
 pub share-requires : goal.share-requires
 share-requires c =
     record {
-      rules_in_range = part_in_range _ c.requires.file_value (part_viewed c.args.shape c.of.ensures c.templates-rules.ensures);
+      rules_in_range = part_in_range _ c.args.sound.is_read (part_viewed c.args.sound.shape c.of.ensures c.templates-rules.ensures);
       marks_all = c.productive-productive.ensures;
       marks_all_2 =
-          reached_useful _ c.requires.file_value (part_viewed c.args.shape c.of.ensures c.templates-rules.ensures) _ c.productive-productive.ensures _ c.marked.ensures
+          reached_useful _ c.args.sound.is_read (part_viewed c.args.sound.shape c.of.ensures c.templates-rules.ensures) _ c.productive-productive.ensures _ c.marked.ensures
           (rw c.if-not-marked.false) _ c.reached-useful.ensures;
-      rules_len_bound = part_few _ c.requires.file_value (part_viewed c.args.shape c.of.ensures c.templates-rules.ensures);
+      rules_len_bound = part_few _ c.args.sound.is_read (part_viewed c.args.sound.shape c.of.ensures c.templates-rules.ensures);
       shares_len = search rules;
     }
 
 pub rounds-requires : goal.rounds-requires
 rounds-requires c =
     record {
-      file_value = c.requires.file_value;
       lore_of = c.teach.ensures;
       shares =
-          of_file c.args.file.now c.requires.file_value (part_viewed c.args.shape c.of.ensures c.templates-rules.ensures) (λ rules. Shares rules c.share.new.shares)
+          of_file c.args.sound.file.now c.args.sound.is_read (part_viewed c.args.sound.shape c.of.ensures c.templates-rules.ensures) (λ rules. Shares rules c.share.new.shares)
           c.share.ensures;
       has_page =
-          marked_page c.args.file.now c.requires.file_value (part_viewed c.args.shape c.of.ensures c.templates-rules.ensures) _ c.productive-productive.ensures _
+          marked_page c.args.sound.file.now c.args.sound.is_read (part_viewed c.args.sound.shape c.of.ensures c.templates-rules.ensures) _ c.productive-productive.ensures _
           c.marked.ensures (rw c.if-not-marked.false);
-      lent = c.requires.lent;
+      lent = c.requires;
     }

@@ -40,15 +40,15 @@ turn f lore t₀ t t' budget r prev n w e {shape} {part} sound taught page lent 
     }
 
 pub loop-r-init : goal.loop-r-init
-loop-r-init c = start_state c.args.file.now c.args.lore.now.entries c.args.table.now c.requires.lent.0
+loop-r-init c = start_state c.args.sound.file.now c.args.lore.now.entries c.args.table.now c.requires.lent.0
 
 pub walk_round-walked-requires : goal.walk_round-walked-requires
 walk_round-walked-requires c =
-    let f = c.args.file.now in
+    let f = c.args.sound.file.now in
     let lore = c.args.lore.now.entries in
-    let sound = c.requires.file_value in
-    let whole = shape_sound f c.args.shape sound in
-    let part = part_viewed c.args.shape c.of.ensures c.templates-rules.ensures in
+    let sound = c.args.sound.is_read in
+    let whole = shape_sound f c.args.sound.shape sound in
+    let part = part_viewed c.args.sound.shape c.of.ensures c.templates-rules.ensures in
     let state = c.loop-r.invariant in
     let round = next_round c.loop-r.r c.loop-r.prev c.loop-r.n in
     record {
@@ -64,25 +64,25 @@ walk_round-walked-requires c =
 pub returns-in-Err : goal.returns-in-Err
 returns-in-Err c =
     ends_event
-    (turn _ _ _ _ _ _ _ _ _ _ _ c.requires.file_value c.requires.lore_of c.requires.has_page c.requires.lent c.loop-r.invariant
-    c.loop-r-test.true (part_viewed c.args.shape c.of.ensures c.templates-rules.ensures) c.walk_round-walked.ensures c.in-Err.ensures)
+    (turn _ _ _ _ _ _ _ _ _ _ _ c.args.sound.is_read c.requires.lore_of c.requires.has_page c.requires.lent c.loop-r.invariant
+    c.loop-r-test.true (part_viewed c.args.sound.shape c.of.ensures c.templates-rules.ensures) c.walk_round-walked.ensures c.in-Err.ensures)
     c.event_refusal.ensures c.wipe.ensures
 
 pub returns-then-m-n : goal.returns-then-m-n
 returns-then-m-n c =
     ends_passed
-    (turn _ _ _ _ _ _ _ _ _ _ _ c.requires.file_value c.requires.lore_of c.requires.has_page c.requires.lent c.loop-r.invariant
-    c.loop-r-test.true (part_viewed c.args.shape c.of.ensures c.templates-rules.ensures) c.walk_round-walked.ensures c.in-Ok.ensures)
+    (turn _ _ _ _ _ _ _ _ _ _ _ c.args.sound.is_read c.requires.lore_of c.requires.has_page c.requires.lent c.loop-r.invariant
+    c.loop-r-test.true (part_viewed c.args.sound.shape c.of.ensures c.templates-rules.ensures) c.walk_round-walked.ensures c.in-Ok.ensures)
     c.if-m-n.true c.sort.ensures c.clear.ensures
 
 pub loop-r-preserved : goal.loop-r-preserved
 loop-r-preserved c =
     goes_on
-    (turn _ _ _ _ _ _ _ _ _ _ _ c.requires.file_value c.requires.lore_of c.requires.has_page c.requires.lent c.loop-r.invariant
-    c.loop-r-test.true (part_viewed c.args.shape c.of.ensures c.templates-rules.ensures) c.walk_round-walked.ensures c.in-Ok.ensures)
+    (turn _ _ _ _ _ _ _ _ _ _ _ c.args.sound.is_read c.requires.lore_of c.requires.has_page c.requires.lent c.loop-r.invariant
+    c.loop-r-test.true (part_viewed c.args.sound.shape c.of.ensures c.templates-rules.ensures) c.walk_round-walked.ensures c.in-Ok.ensures)
     c.if-m-n.false
 
 pub returns : goal.returns
 returns c =
-    ends_used c.requires.lent (shape_sound c.args.file.now c.args.shape c.requires.file_value) c.requires.has_page c.loop-r.invariant
+    ends_used c.requires.lent (shape_sound c.args.sound.file.now c.args.sound.shape c.args.sound.is_read) c.requires.has_page c.loop-r.invariant
     c.loop-r-test.false c.wipe-2.ensures

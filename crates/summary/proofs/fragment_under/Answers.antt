@@ -1,22 +1,28 @@
 -- A bad file is refused with its place. Of a sound one the schema is taught, and what reading finds with it is found under the file.
 -- Assumes nothing.
+use Rattle.std.proofs.Common.{List, ℕ, Err, subst}
 use Rattle.std.proofs.lemmas.Result.{err_from_is_err_and}
-use Rattle.template.proofs.ShapeLaws.{read_is}
+use Rattle.summary.specs.Replies.{reply_of, stopped}
+use Rattle.summary.specs.Fragments.{FragmentSays}
 use Rattle.summary.proofs.FragmentLaws.{says_bad, says_found}
 use Rattle.summary.proofs.fragment_under.Goals as goal
 
-pub returns-in_err-shape : goal.returns-in_err-shape
-returns-in_err-shape c =
+pub returns-in_err-sound : goal.returns-in_err-sound
+returns-in_err-sound c =
     let p = err_from_is_err_and c.from_residual.result c.from_residual.ensures.1 in
-    rw (p.1, p.2) (says_bad _ c.args.bytes.now _ (read_is _ _ _ c.read.ensures c.in_err-shape.was))
+    rw (p.1, p.2) (says_bad _ c.args.bytes.now _ c.in_err-sound.ensures.bad)
 
 pub returns-in_err-s : goal.returns-in_err-s
 returns-in_err-s c =
     let p = err_from_is_err_and c.from_residual-in_err-s.result c.from_residual-in_err-s.ensures.1 in
-    let sound = read_is _ _ _ c.read.ensures c.in_ok-shape.was in
-    rw (p.1, p.2) (rw c.in_err-s.was at (says_found _ _ sound _ c.teach.ensures c.args.bytes.now c.summarise.result c.summarise.ensures))
+    let says =
+    rw c.in_err-s.was at
+    (says_found _ _ c.in_ok-sound.sound.is_read _ c.teach.ensures c.args.bytes.now c.summarise.result c.summarise.ensures) in
+    rw (p.1, p.2)
+    (subst (λ (f : List ℕ). FragmentSays f c.args.bytes.now (reply_of (Err (stopped c.in_err-s.field-0.0)))) c.in_ok-sound.ensures.sound says)
 
 pub returns : goal.returns
 returns c =
-    let sound = read_is _ _ _ c.read.ensures c.in_ok-shape.was in
-    rw c.in_ok-s.was at (says_found _ _ sound _ c.teach.ensures c.args.bytes.now c.summarise.result c.summarise.ensures)
+    rw (← c.in_ok-sound.ensures.sound)
+    (rw c.in_ok-s.was at
+    (says_found _ _ c.in_ok-sound.sound.is_read _ c.teach.ensures c.args.bytes.now c.summarise.result c.summarise.ensures))

@@ -13,7 +13,7 @@ then_form-requires c =
     let names-room : length c.args.left.names ≡ most_tags = search rules in
     let values-room : length c.args.left.values ≡ pieces_long = search rules in
     record {
-      holds = holds_summary c.args.file.now c.args.left names-room values-room c.requires.summary_under;
+      holds = holds_summary c.args.sound.file.now c.args.left names-room values-room c.requires.summary_under;
       more_bound = c.requires.summary_under_2.few;
     }
 
