@@ -49,7 +49,10 @@ fn read_input<R: Read>(reader: &mut R, buffer: &mut [u8]) -> Result<usize, Failu
             }
         }
     }
-    Err(Failure::Unread)
+    if at < buffer.len() {
+        return Err(Failure::Unread);
+    }
+    Ok(at)
 }
 
 // Writes the file's line, in one piece: its text is put together first.

@@ -11,6 +11,11 @@ returns-then-at-buffer-clause-from g c =
     let full : length (take c.loop.at c.loop.buffer) ≡ room = search rules in
     read_to_full _ _ _ _ c.loop.invariant.from full
 
+pub returns-clause-from : goal.returns-clause-from
+returns-clause-from g c =
+    let full : length (take c.loop.at c.loop.buffer) ≡ room = search rules in
+    read_to_full _ _ _ _ c.loop.invariant.from full
+
 pub returns-in-Ok-eq0-clause-from : goal.returns-in-Ok-eq0-clause-from
 returns-in-Ok-eq0-clause-from g c =
     let before = c.loop.invariant in
