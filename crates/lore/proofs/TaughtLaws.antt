@@ -177,7 +177,7 @@ module _ (q : ℕ) (rules ends lore : List ℕ) (few : q ≤ most_states) (rules
       (ends_wider q most_states ends few ends_below) a r
 
   -- the leaf is the element around the empty word
-  lore_leaf : (a : ℕ) → a < most_names → get_or lore (leaf_of a) 0 ≡ taught_wrap most_states lore a (empty_in lore)
+  pub lore_leaf : (a : ℕ) → a < most_names → get_or lore (leaf_of a) 0 ≡ taught_wrap most_states lore a (empty_in lore)
   unfolding outer reads wrap wrapped fires
   lore_leaf a ha =
       t.leaves.leaves a ha
