@@ -86,12 +86,7 @@ fn take_tag(
 
 // The piece of a word and, behind it, the element of this name around another word.
 #[inline(always)]
-fn closed(
-    lore: &lore::Lore,
-    name: u8,
-    before: pieces::Piece,
-    inner: pieces::Piece,
-) -> pieces::Piece
+fn closed(lore: &lore::Lore, name: u8, before: pieces::Piece, inner: pieces::Piece) -> pieces::Piece
     ensures { result ≡ (pieces lore.now.entries).compose before ((pieces lore.now.entries).wrap name inner) }
 {
     let element = pieces::element(lore, name, inner);
@@ -148,7 +143,7 @@ pub fn then_tag(
     if pieces::TAGS <= n {
         return Err(Clash::TooDeep);
     }
-    put_tag(names, values, n, name, pieces::empty(lore));
+    put_tag(names, values, n, name, pieces::empty(&lore.entries));
     if closes {
         return Ok(counted(c.ends + 1, 0));
     }
@@ -156,12 +151,7 @@ pub fn then_tag(
 }
 
 // A balanced word of this piece more, behind n tags.
-fn add_value(
-    lore: &lore::Lore,
-    values: &mut [u64; pieces::PIECES],
-    n: usize,
-    value: pieces::Piece,
-)
+fn add_value(lore: &lore::Lore, values: &mut [u64; pieces::PIECES], n: usize, value: pieces::Piece)
     requires n_le_most_tags { n ≤ most_tags }
     ensures { values.new
         ≡ put_piece values.old n ((pieces lore.now.entries).compose (piece_at values.old n) value) }
@@ -216,9 +206,9 @@ fn balance_of(c: Counts, last: pieces::Piece) -> Option<pieces::Piece>
 }
 
 // The two tests at a page's end, on a form with so many tags and this piece after them.
-pub fn ending_of(lore: &lore::Lore, c: Counts, last: pieces::Piece) -> Result<(), Flaw>
+pub fn ending_of(lore: &[u64; lore::LORE], c: Counts, last: pieces::Piece) -> Result<(), Flaw>
     requires { tag_count c ≤ most_tags }
-    ensures { (form : Stack Piece) → tags form ≡ tag_count c → result ≡ ending_of lore.now.entries form last }
+    ensures { (form : Stack Piece) → tags form ≡ tag_count c → result ≡ ending_of lore.now form last }
 {
     let whole = balance_of(c, last).ok_or(Flaw::Unmatched)?;
     if pieces::accepts(lore, whole) {

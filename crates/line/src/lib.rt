@@ -2,8 +2,8 @@
 // is lent.
 #![tactic(auto)]
 
-ghost use Rattle.std.specs.Prelude.{Some};
-ghost use Rattle.line.specs.Lines.{text_of, Prints};
+ghost use Rattle.std.specs.Prelude.{Some, ◌≤◌, length};
+ghost use Rattle.line.specs.Lines.{longest_line, text_of, Prints};
 
 use std::fmt;
 
@@ -37,7 +37,8 @@ impl fmt::Display for Line {
 
 // Checks a template file with the largest budget, which always decides, over a lent worktable.
 pub fn checked(file: &[u8], table: &mut [u64]) -> Line
-    ensures { Prints file.now table.old result table.new }
+    ensures prints { Prints file.now table.old result table.new }
+    ensures fits { length (text_of result) ≤ longest_line }
 {
     let reply = rounds::check(file, table, rounds::ROUNDS);
     Line {

@@ -170,13 +170,6 @@ impl Lore {
         teach(rules, ends, states, &mut self.entries);
     }
 
-    // The relation of the empty word.
-    pub fn empty(&self) -> u64
-        ensures { result ≡ empty_in self.now.entries }
-    {
-        self.entries[2]
-    }
-
     // The relation of two words in a row, the left one often empty.
     pub fn follow(&self, left: u64, right: u64) -> u64
         ensures { result ≡ compose most_states (states_in self.now.entries) left right }
@@ -197,13 +190,20 @@ impl Lore {
         }
         joined(&self.entries, a, inner)
     }
+}
 
-    // Does state 0 derive a word of this relation?
-    pub fn accepts(&self, r: u64) -> bool
-        ensures { result ≡ taught_accepts most_states self.now.entries r }
-    {
-        meets(r, self.entries[1], 0)
-    }
+// The relation of the empty word. This and `accepts` read any entries, whether they were taught or not.
+pub fn empty(lore: &[u64; LORE]) -> u64
+    ensures { result ≡ empty_in lore.now }
+{
+    lore[2]
+}
+
+// Does state 0 derive a word of this relation?
+pub fn accepts(lore: &[u64; LORE], r: u64) -> bool
+    ensures { result ≡ taught_accepts most_states lore.now r }
+{
+    meets(r, lore[1], 0)
 }
 
 // A relation joined with the entry of inner state y, where its row meets the ending states.

@@ -58,7 +58,7 @@ fn tested(lore: &lore::Lore, s: form::Summary) -> Result<(), PageRefusal>
 {
     let c = s.counts;
     let last = pieces::piece_at(&s.values, c.ends + c.starts);
-    form::ending_of(lore, c, last)?;
+    form::ending_of(&lore.entries, c, last)?;
     Ok(())
 }
 

@@ -170,7 +170,7 @@ fn invalid_form(
     ensures { (s : Stack Piece) → tags s ≡ tag_count c
         → result ≡ invalid_form lore.now.entries (record { of = x; form = s; last = piece_at values.now (tag_count c) }) }
 {
-    x == 0 && form::ending_of(lore, c, pieces::piece_at(values, c.ends + c.starts)).is_err()
+    x == 0 && form::ending_of(&lore.entries, c, pieces::piece_at(values, c.ends + c.starts)).is_err()
 }
 
 // The row of a form of x.
@@ -284,7 +284,7 @@ pub fn one_turn(
     if !fits(pair.right, pair.k, table) {
         return Some(found);
     }
-    let empty = pieces::empty(lore);
+    let empty = pieces::empty(&lore.entries);
     let mut tags = [0u8; pieces::TAGS];
     let mut parts = [0u64; pieces::PIECES];
     let b = load(empty, pair.right, pair.k, table, &mut tags, &mut parts);

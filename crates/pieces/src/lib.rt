@@ -68,11 +68,11 @@ pub fn is_none(p: Piece) -> bool
 }
 
 // The empty word's.
-pub fn empty(lore: &lore::Lore) -> Piece
-    ensures { result ≡ (pieces lore.now.entries).unit }
+pub fn empty(lore: &[u64; lore::LORE]) -> Piece
+    ensures { result ≡ (pieces lore.now).unit }
 {
     Piece {
-        relation: lore.empty(),
+        relation: lore::empty(lore),
         outermost: 0,
     }
 }
@@ -119,8 +119,8 @@ pub fn fits(states: usize, p: Piece) -> bool
 
 // Does state 0 derive a word of this piece, and is it one element?
 #[tactic(auto, unfolding(crate::specs::Pieces::accepts_piece))]
-pub fn accepts(lore: &lore::Lore, p: Piece) -> bool
-    ensures { result ≡ accepts_piece lore.now.entries p }
+pub fn accepts(lore: &[u64; lore::LORE], p: Piece) -> bool
+    ensures { result ≡ accepts_piece lore.now p }
 {
-    lore.accepts(p.relation) && p.outermost == 1
+    lore::accepts(lore, p.relation) && p.outermost == 1
 }

@@ -130,7 +130,7 @@ pub fn summarise(lore: &lore::Lore, known: u8, bytes: &[u8]) -> Result<form::Sum
 {
     let mut names = [0u8; pieces::TAGS];
     let mut values = [0u64; pieces::PIECES];
-    pieces::put_piece(&mut values, 0, pieces::empty(lore));
+    pieces::put_piece(&mut values, 0, pieces::empty(&lore.entries));
     let counts = reader::read_bytes(lore, &mut names, &mut values, known, bytes)?;
     Ok(form::Summary {
         counts: counts,
