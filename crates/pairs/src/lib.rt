@@ -160,17 +160,18 @@ fn load(
 }
 
 // Is the form one of the start that is no page's?
-fn invalid_form(
-    lore: &lore::Lore,
-    x: u8,
-    c: form::Counts,
-    values: &[u64; pieces::PIECES],
-) -> bool
+fn invalid_form(lore: &lore::Lore, x: u8, c: form::Counts, values: &[u64; pieces::PIECES]) -> bool
     requires { tag_count c ≤ most_tags }
     ensures { (s : Stack Piece) → tags s ≡ tag_count c
         → result ≡ invalid_form lore.now.entries (record { of = x; form = s; last = piece_at values.now (tag_count c) }) }
 {
-    x == 0 && form::ending_of(&lore.entries, c, pieces::piece_at(values, c.ends + c.starts)).is_err()
+    x == 0
+        && form::ending_of(
+            &lore.entries,
+            c,
+            pieces::piece_at(values, c.ends + c.starts),
+        )
+        .is_err()
 }
 
 // The row of a form of x.
