@@ -197,12 +197,12 @@ pub fn number(r: Result<Shape, Fault>) -> u64
     }
 }
 
-// The part of a file from a place on, empty where the file ends before it does.
+// The part of a file from a place on; where the file ends before it does, an empty part of the file.
 fn part(file: &[u8], at: usize, len: usize) -> &[u8]
     requires { at + len ≤ 67108864 }
     ensures { result.now ≡ part_of file.now at len }
 {
-    file.get(at..at + len).unwrap_or(&[])
+    file.get(at..at + len).unwrap_or(&file[..0])
 }
 
 // The template rules of so many symbols, where there are this many.
