@@ -9,6 +9,7 @@ use native.Mathlib.Nat.{div-eq_of_lt, mod-eq_of_lt, add-div_left, add-mod_left}
 use native.Mathlib.Numerals.{add-one}
 use native.Mathlib.Omega.{arith}
 use lib.Dec.{eqb, eqb-suc-zero, ltb}
+use lib.Pow.{pow_pos}
 use mir.Syntax.{w64}
 use mir.Val.{Fits}
 use borrow.Author.Rules.{rules}
@@ -103,6 +104,9 @@ whole_row_is q h =
     let e : q + (8 - q) ≡ 8 = omega arith in
     let d : number 8 (below_bit q) + 1 ≡ 2 ^ q = rw e at (whole_row q (8 - q)) in
     rw (one_shl q 64 (omega arith)) (omega (arith, d))
+
+pub whole_row_positive : (q : ℕ) → q ≤ 8 → 1 ≤ (1 * 2 ^ q) % 2 ^ 64
+whole_row_positive q h = rw (one_shl q 64 (omega arith)) (pow_pos q)
 
 module _ (q n r s : ℕ) (h : q ≤ 8) (er : r ≡ 72340172838076673 % 2 ^ (q * 8)) (es : s ≡ number 8 (below_bit n)) where
   rows_there : r ≡ relation 8 (λ x z. eqb z 0 && ltb x q)

@@ -1,14 +1,16 @@
 -- What the branches and the loop of the code have, in the very words in which the code has it and at its width, so that `search turns`
 -- chains them: the value in each arm of a branch; none, next and end of the composition's loop. Each follows from one law of UnitLaws or
 -- of ThroughLaws. Assumes nothing.
-use mathlib.Core.Path.{◌≡◌, refl, ap, ◌∙◌}
-use Prim.Native.Nat.{ℕ, ◌+◌, ◌*◌, ◌/◌, ◌%◌, ◌^◌, ◌≤◌}
+use mathlib.Core.Path.{◌≡◌, refl, sym, ap, ◌∙◌}
+use Prim.Native.Nat.{ℕ, ◌+◌, ◌*◌, ◌/◌, ◌%◌, ◌^◌, ◌≤◌, ◌<◌}
+use native.Mathlib.Nat.{mod-eq_of_lt}
 use native.Mathlib.Omega.{arith}
 use lib.Bits.{bit_or, bit_and}
-use lib.Pow.{shr-shr}
+use lib.Pow.{pow_pos, shr-shr}
 use mir.Syntax.{w64}
 use mir.Val.{Fits}
 use borrow.Author.Rules.{rules}
+use Rattle.std.proofs.lemmas.Nat.{one_shl}
 use Rattle.numbers.specs.Bits.{number}
 use Rattle.hedge.specs.Relation.{has}
 use Rattle.hedge.specs.Operations.{same, linked, through, first_column, lowest, relation, unit, compose}
@@ -17,7 +19,19 @@ use Rattle.hedge.proofs.UnitLaws.{unit_compose, unit_first_rows}
 use Rattle.hedge.proofs.LaneLaws.{first-column}
 use Rattle.hedge.proofs.ThroughLaws.{first_column_of, first_row_of, times_through, through_moved, linked_none, linked_next}
 
--- ---- the unit, and the empty word before another
+-- ---- the first rows, the unit, and the empty word before another
+
+rows_power : (q : ℕ) → q < 8 → (1 * 2 ^ (q * 8)) % 2 ^ 64 ≡ 2 ^ (q * 8)
+rows_power q h = one_shl (q * 8) 64 (omega arith)
+
+pub rows_power_positive : (q : ℕ) → q < 8 → 0 < (1 * 2 ^ (q * 8)) % 2 ^ 64
+rows_power_positive q h = rw (rows_power q h) (pow_pos (q * 8))
+
+pub rows_some : (q r : ℕ) → q < 8 → r % ((1 * 2 ^ (q * 8)) % 2 ^ 64) ≡ r % 2 ^ (q * 8)
+rows_some q r h = rw (rows_power q h)
+
+pub rows_all : (q r : ℕ) → q ≤ 8 → 8 ≤ q → Fits w64 r → r ≡ r % 2 ^ (q * 8)
+rows_all q r h h' f = let e : q ≡ 8 = omega arith in rw e (sym (mod-eq_of_lt f.fits))
 
 all_states : ◌≡◌ {A = ℕ} 9241421688590303745 (unit 8 8)
 unfolding unit same relation lowest number
