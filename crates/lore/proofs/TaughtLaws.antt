@@ -171,7 +171,7 @@ ends_wider q K ends few below j hj = omega (arith, below j hj)
 
 module _ (q : ℕ) (rules ends lore : List ℕ) (few : q ≤ most_states) (rules_below : RulesBelow q rules)
     (names_below : NamesBelow most_names rules) (ends_below : EndsBelow q ends) (t : Taught most_states q rules ends lore) where
-  lore_wrap : (a r : ℕ) → taught_wrap most_states lore a r ≡ wrap most_states rules ends a r
+  pub lore_wrap : (a r : ℕ) → taught_wrap most_states lore a r ≡ wrap most_states rules ends a r
   lore_wrap a r =
       taught-wrap most_states q rules ends lore t (rules_wider q most_states rules few rules_below) names_below
       (ends_wider q most_states ends few ends_below) a r
@@ -197,9 +197,41 @@ module _ (q : ℕ) (rules ends lore : List ℕ) (few : q ≤ most_states) (rules
         within = λ a r. rw (t.states, lore_wrap a r) (within_wrap most_states q few rules ends rules_below ends_below a r);
       }
 
--- whatever schema it is the lore of
+-- ---- of the lore of some schema
+
+pub is_lore : (q : ℕ) (rules ends lore : List ℕ) → q ≤ most_states → RulesBelow q rules
+    → NamesBelow most_names rules
+    → EndsBelow q ends
+    → Taught most_states q rules ends lore
+    → IsLore most_states lore
+is_lore q rules ends lore few rb nb eb t =
+    record {
+      states = q;
+      rules = rules;
+      ends = ends;
+      few = few;
+      rules_below = rb;
+      names_below = nb;
+      ends_below = eb;
+      taught = t;
+    }
+
+-- it keeps what every lore keeps, whatever schema it is the lore of
 pub lore_known : (lore : List ℕ) → IsLore most_states lore → Known most_states lore
 lore_known lore k = known_lore k.states k.rules k.ends lore k.few k.rules_below k.names_below k.ends_below k.taught
+
+module _ (lore : List ℕ) (l : IsLore most_states lore) where
+  -- the limits of its schema, by the number of states that the lore has
+  pub lore_rules : RulesBelow (states_in lore) l.rules
+  lore_rules = rw l.taught.states l.rules_below
+
+  pub lore_ends : EndsBelow (states_in lore) l.ends
+  lore_ends = rw l.taught.states l.ends_below
+
+  -- the laws of its schema's relations
+  abbrev pub lore_relations : Laws (relations most_states (states_in lore) l.rules l.ends)
+  lore_relations =
+      relations_laws most_states (states_in lore) (lore_known lore l).few l.rules l.ends lore_rules lore_ends
 
 -- ---- of a lore that a call is given
 
