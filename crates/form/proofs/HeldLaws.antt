@@ -15,7 +15,7 @@ use Rattle.words.specs.Tags.{start, end}
 use Rattle.words.specs.Reduced.{bottom, push, OnlyEnds, EndsFirst, tags, starts, ends, net}
 use Rattle.pieces.specs.declared.Piece.{Piece}
 use Rattle.pieces.specs.Pieces.{most_tags, pieces_long, zero_piece, piece_at, put_piece}
-use Rattle.pieces.proofs.PieceLaws.{piece_same, piece_other, put_length, no_pieces}
+use Rattle.pieces.proofs.PieceLaws.{piece_same, piece_other, put_length, no_pieces, pieces_ext}
 use Rattle.form.specs.Held.{tag_at, stack_of, Unused}
 
 -- a tag by its place
@@ -148,6 +148,21 @@ unused_take n m v names values p h g l u =
 pub value_taken : (n m : ℕ) (v w : Piece) (values : List ℕ) → length values ≡ pieces_long → m ≤ most_tags
     → piece_at (put_piece (put_piece values n w) m v) m ≡ v
 value_taken n m v w values h l = piece_same (put_piece values n w) m v (put_length values n w ∙ h) l
+
+-- a piece written over another
+pub value_over : (n : ℕ) (v w : Piece) (values : List ℕ) → length values ≡ pieces_long → n ≤ most_tags
+    → put_piece (put_piece values n v) n w ≡ put_piece values n w
+value_over n v w values h l =
+    pieces_ext (put_piece (put_piece values n v) n w) (put_piece values n w) (put_length (put_piece values n v) n w ∙ long)
+    (put_length values n w ∙ h) (λ k m. at k (ℕ_discrete k n))
+  where
+    long : length (put_piece values n v) ≡ pieces_long
+    long = put_length values n v ∙ h
+
+    at : (k : ℕ) → Dec (k ≡ n) → piece_at (put_piece (put_piece values n v) n w) k ≡ piece_at (put_piece values n w) k
+    at k (yes e) = rw e (piece_same (put_piece values n v) n w long l ∙ sym (piece_same values n w h l))
+    at k (no e) =
+        piece_other (put_piece values n v) n k w e ∙ piece_other values n k v e ∙ sym (piece_other values n k w e)
 
 -- counts
 

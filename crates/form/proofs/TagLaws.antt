@@ -228,8 +228,8 @@ module _ (lore : List ℕ) (s : Summary) where
           (held_taken ((pieces lore).compose whole v)
           ∙ ap (λ o. then_value_within (pieces lore) o v) (sym (held_taken whole) ∙ told)))
 
-    pub end_met : (closes : Bool) (r : Result Counts Clash) → (closes && ltb 0 s.counts.starts) ≡ true
-        → Stepped r names values (after_tag lore s (end name)) → Stepped r names values (after_tag lore s (tag_of closes name))
-    end_met closes r t h = rw (meets_start s.counts.starts closes t).0 h
+    pub end_met : (closes : Bool) (r : Result Counts Clash) → closes ≡ true → Stepped r names values (after_tag lore s (end name))
+        → Stepped r names values (after_tag lore s (tag_of closes name))
+    end_met closes r f h = rw f h
 
 pub ruleset tag_laws = (start_kept, end_kept, stays_deep, end_differs, end_meets, end_met, meets_start, meets_none, rules)

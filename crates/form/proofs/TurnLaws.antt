@@ -41,7 +41,19 @@ pub kept_holds : (r : Result Counts Clash) (names values : List ℕ) (o : Limite
     → r ≡ Ok c → Holds (summary_of c names values)
 kept_holds r names values o c h p = rw p at h.holds
 
--- a step that is refused says the same whatever the arrays hold
+-- a step that is refused
+
+-- as the code tells it: any case but `Ok`
+abbrev pub IsRefused : Result Counts Clash → Type 0
+IsRefused r = (c : Counts) → r ≡ Ok c → ⊥
+
+pub differs_refused : (a b : ℕ) → IsRefused (Err (Mismatch a b))
+differs_refused a b c e = cc
+
+pub deep_refused : IsRefused (Err TooDeep)
+deep_refused c e = cc
+
+-- it says the same whatever the arrays hold
 
 pub refused_says : (e : Clash) (names values names' values' : List ℕ) (o : Limited Piece) → outcome (Err e) names values ≡ o
     → Stepped (Err e) names' values' o
