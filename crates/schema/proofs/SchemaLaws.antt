@@ -20,7 +20,7 @@ use Rattle.words.proofs.ReducedLaws.{reduced_whole}
 use Rattle.words.proofs.ReadLaws.{balanced_bottom}
 use Rattle.hedge.specs.Schema.{most_states, RulesBelow, EndsBelow, Valid}
 use Rattle.hedge.specs.Operations.{unit, compose, wrap}
-use Rattle.lore.specs.Lore.{states_in, empty_in, taught_wrap, NamesBelow}
+use Rattle.lore.specs.Lore.{states_in, empty_in, taught_wrap, NamesBelow, IsLore}
 use Rattle.lore.proofs.TaughtLaws.{taught-wrap}
 use Rattle.pieces.specs.declared.Piece.{Piece}
 use Rattle.pieces.specs.Pieces.{pieces, accepted}
@@ -126,6 +126,20 @@ module _ (f : List ℕ) (sound : IsSound f) where
 -- ---- its lore
 
 module _ (f lore : List ℕ) (sound : IsSound f) (taught : LoreOf f lore) where
+  pub file_lore : IsLore most_states lore
+  file_lore =
+      let s = sound_file f sound in
+      record {
+        states = states f;
+        rules = schema_rules f;
+        ends = ending_states f;
+        few = s.few_states;
+        rules_below = schema_rules_below f s;
+        names_below = file_names_below f sound;
+        ends_below = endings_below f s;
+        taught = taught;
+      }
+
   pub lore_binoid : pieces lore ≡ binoid_of f
   lore_binoid =
       pieces_are (states f) (schema_rules f) (ending_states f) lore taught (file_rules_below f sound) (file_names_below f sound)
