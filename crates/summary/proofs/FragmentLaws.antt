@@ -7,6 +7,8 @@ use native.Mathlib.Omega.{arith}
 use lib.ListN.{replicate}
 use borrow.Author.Rules.{rules}
 use Rattle.std.specs.Prelude.{Result, Ok, Err}
+use Rattle.hedge.specs.Schema.{most_states}
+use Rattle.lore.specs.Lore.{IsLore}
 use Rattle.pieces.specs.declared.Piece.{Piece}
 use Rattle.pieces.specs.Pieces.{most_tags, pieces_long, piece_at, put_piece, lifted, pieces, Counted}
 use Rattle.pieces.proofs.PieceLaws.{piece_same}
@@ -18,7 +20,7 @@ use Rattle.form.specs.declared.Counts.{Counts}
 use Rattle.form.specs.declared.Summary.{Summary}
 use Rattle.form.proofs.TagLaws.{holds_none}
 use Rattle.schema.specs.Schemas.{LoreOf}
-use Rattle.schema.proofs.SchemaLaws.{lore_carries}
+use Rattle.schema.proofs.SchemaLaws.{file_lore, lore_carries}
 use Rattle.reader.specs.Reads.{Reads, Found}
 use Rattle.reader.specs.Feeds.{Progressed}
 use Rattle.reader.specs.declared.Stop.{Stop}
@@ -76,6 +78,9 @@ answers_found f bytes sound (Err (Mismatch p)) r = (sound, r, refl)
 answers_found f bytes sound (Err (TooDeep p)) r = (sound, r, refl)
 
 module _ (f : List ℕ) (shape : Shape) (sound : reading f ≡ Ok shape) (lore : List ℕ) (taught : LoreOf f lore) where
+  pub taught_lore : IsLore most_states lore
+  taught_lore = file_lore f lore (shape_sound f shape sound) taught
+
   pub says_found : (bytes : List ℕ) (r : Result Summary Stop) → FragmentFinds (Reads shape.names (pieces lore) most_tags bytes) r
       → FragmentSays f bytes (reply_of (found_reply r))
   says_found bytes r h =

@@ -9,3 +9,4 @@ pub mod NamedLaws
 pub mod PlaceLaws
 pub mod MeaningLaws
 pub mod NetLaws
+pub mod DepthLaws
