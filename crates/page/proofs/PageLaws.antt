@@ -1,6 +1,6 @@
 -- A page's reply from the reply of the same bytes as a fragment. A refusal is the same. Else the bytes spell a word whose reduced form the
 -- summary packs, and what the two tests at the end answer of that form is so of the word (schema/proofs/SchemaLaws.antt). Assumes nothing.
-use mathlib.Core.Path.{◌≡◌}
+use mathlib.Core.Path.{◌≡◌, refl}
 use mathlib.Core.List.{List}
 use Prim.Native.Nat.{ℕ}
 use borrow.Author.Rules.{rules}
@@ -24,11 +24,13 @@ use Rattle.reader.specs.Reads.{Spelled, AllReadable, Reads}
 use Rattle.reader.proofs.ReadsLaws.{reads_finding}
 use Rattle.reader.specs.declared.Stop.{Stop}
 use Rattle.reader.specs.declared.Stop.TheVariants as stop
-use Rattle.summary.specs.Replies.{reply_of}
-use Rattle.summary.specs.Fragments.{FragmentSays, FragmentFinds}
+use Rattle.summary.specs.declared.FragmentRefusal.TheVariants as fragment
+use Rattle.summary.specs.Replies.{FragmentAnswer, FragmentReply, reply_of}
+use Rattle.summary.specs.Fragments.{FragmentAnswers, FragmentSays, FragmentFinds}
 use Rattle.summary.proofs.FragmentLaws.{found_reply, says_found}
 use Rattle.page.specs.declared.PageRefusal.{PageRefusal}
-use Rattle.page.specs.Pages.{PageSays, stopped, tested}
+use Rattle.page.specs.declared.PageRefusal.TheVariants.{BadFile, NotATag, Mismatch, TooDeep}
+use Rattle.page.specs.Pages.{PageReply, PageSays, stopped, tested}
 
 -- ---- the two tests, on the form that a summary packs
 
@@ -70,5 +72,27 @@ module _ (f bytes : List ℕ) (r : Result Summary Stop) (says : FragmentSays f b
 
   pub stopped_page : (e : Stop) → r ≡ Err e → PageSays f bytes (Err (stopped e))
   stopped_page e d = stop_says f bytes e (rw d at says)
+
+-- ---- the replies, from the answer of a fragment's reply
+
+-- what refused a fragment, as a reply; one that was summarised leaves the page valid so far
+abbrev pub refusal : FragmentAnswer → PageReply
+refusal (Ok _) = Ok tt
+refusal (Err (fragment.BadFile p)) = Err (BadFile p)
+refusal (Err (fragment.NotATag p)) = Err (NotATag p)
+refusal (Err (fragment.Mismatch p)) = Err (Mismatch p)
+refusal (Err (fragment.TooDeep p)) = Err (TooDeep p)
+
+refusal_says : (f bytes : List ℕ) (a : FragmentAnswer) (s : Summary) → (a ≡ Ok tt → ⊥) → FragmentAnswers f bytes a s
+    → PageSays f bytes (refusal a)
+refusal_says f bytes (Ok tt) s k says = absurd (k refl)
+refusal_says f bytes (Err (fragment.BadFile p)) s k (bad, _) = bad
+refusal_says f bytes (Err (fragment.NotATag p)) s k (sound, read, _) = (sound, read)
+refusal_says f bytes (Err (fragment.Mismatch p)) s k (sound, read, _) = (sound, read)
+refusal_says f bytes (Err (fragment.TooDeep p)) s k (sound, read, _) = (sound, read)
+
+module _ (f bytes : List ℕ) (r : FragmentReply) (says : FragmentSays f bytes r) where
+  pub refused_page : (r.answer ≡ Ok tt → ⊥) → (p : PageReply) → p ≡ refusal r.answer → PageSays f bytes p
+  refused_page k p is = rw is (refusal_says f bytes r.answer r.summary k says)
 
 pub ruleset page_turns = (read_is, says_found, summarised_holds, summarised_page, stopped_page, rules)
