@@ -120,8 +120,11 @@ module _ {f lore t₀ t t' : List ℕ} {budget r prev n : ℕ} {w : Option Tally
         )
 
     -- a row came, and the rounds go on
-    pub goes_on : (m ≡ n → ⊥) → AfterRound f lore t₀ t' (r + 1) n m
+    pub goes_on : (m ≡ n → ⊥) → (r + 1 ≤ budget) × AfterRound f lore t₀ t' (r + 1) n m
     goes_on other =
-        rw (add-one, count)
-        (next_state f lore t₀ t t' turn.sound turn.taught r prev n turn.state tally walk_went m told_went
-        (λ same. other (count ∙ same)))
+        let within = turn.within in (
+          omega (arith, within),
+          rw (add-one, count)
+              (next_state f lore t₀ t t' turn.sound turn.taught r prev n turn.state tally walk_went m told_went
+              (λ same. other (count ∙ same))),
+        )

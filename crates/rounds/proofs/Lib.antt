@@ -9,3 +9,4 @@ pub mod EndLaws
 pub mod PartLaws
 pub mod BudgetLaws
 pub mod UniqueLaws
+pub mod AnswerLaws

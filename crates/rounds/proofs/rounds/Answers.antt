@@ -77,10 +77,10 @@ returns-then-m-n c =
 
 pub loop-r-preserved : goal.loop-r-preserved
 loop-r-preserved c =
-    goes_on
+    (goes_on
     (turn _ _ _ _ _ _ _ _ _ _ _ c.args.sound.is_read c.requires.lore_of c.requires.has_page c.requires.lent c.loop-r.invariant
     c.loop-r-test.true (part_viewed c.args.sound.shape c.of.ensures c.templates-rules.ensures) c.walk_round-walked.ensures c.in-Ok.ensures)
-    c.if-m-n.false
+    c.if-m-n.false).1
 
 pub returns : goal.returns
 returns c =
