@@ -159,7 +159,7 @@ module _ (f : List ℕ) (given : Bytes f) (sound : SoundOf long_symbols f) (fits
       }
 
   -- it consists of bytes
-  rows_bytes : Bytes (flat (sorted all))
+  pub rows_bytes : Bytes (flat (sorted all))
   rows_bytes =
       flat_bytes (sorted all)
       (λ e m. let (i, t, h, k, d) = (row_part e).0 m in rw d (part_byte f s i t (omega (arith, long-count f s)) k fits.0))
