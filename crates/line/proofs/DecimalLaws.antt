@@ -1,5 +1,5 @@
 -- How many digits a number has (specs/Decimal.antt): one below ten, else one more than its tenth part, whatever bounds the turns; a number
--- below 10 ^ k has at most k. Assumes nothing.
+-- below 10 ^ k has at most k. `counts` is what counting them needs. Assumes nothing.
 use mathlib.Core.Path.{◌≡◌, refl}
 use Prim.Native.Nat.{ℕ, zero, suc, ◌*◌, ◌/◌, ◌^◌, ◌≤◌, ◌<◌}
 use native.Mathlib.Nat.{pow-suc}
@@ -52,3 +52,5 @@ places_most (suc k) n h =
 
 pub places_few : (n : ℕ) → Fits w64 n → places n ≤ most_digits
 places_few n f = places_most 19 n (omega (arith, f.fits))
+
+pub ruleset counts = (places_small, places_large, places_some, places_few)

@@ -1,3 +1,2 @@
 pub mod InputLaws
 pub mod LineLaws
-pub mod TextLaws

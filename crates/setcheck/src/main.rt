@@ -7,7 +7,6 @@ ghost use Rattle.line.specs.Lines.{room};
 ghost use Rattle.setcheck.specs.Inputs.{ReadFrom};
 ghost use Rattle.setcheck.specs.Lines.{IsPrinted, IsAnswered};
 
-use std::fmt::Write as _;
 use std::io::{ErrorKind, Read, Write};
 use std::{fmt, io};
 
@@ -55,16 +54,13 @@ fn read_input<R: Read>(reader: &mut R, buffer: &mut [u8]) -> Result<usize, Failu
     Ok(at)
 }
 
-// Writes the file's line, in one piece: its text is put together first.
+// Writes the file's line, in one piece.
 fn print_line<W: Write>(writer: &mut W, file: &[u8]) -> io::Result<()>
     ensures { OnOk result (IsPrinted file.now (W.contents writer.old) (W.contents writer.new)) }
 {
     let mut table = [0u64; worktable::TABLE];
-    let line = line::checked(file, &mut table);
-    let mut text = fmt::InlineText::<{ line::LONGEST }>::new();
-    write!(text, "{line}")?;
-    let bytes = text.as_str().as_bytes();
-    writer.write_all(bytes)
+    let text = line::checked(file, &mut table).text();
+    writer.write_all(&text.bytes[..text.len])
 }
 
 // Reads an input of any length and writes its line.
