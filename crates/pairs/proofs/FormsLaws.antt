@@ -18,7 +18,7 @@ use Rattle.numbers.proofs.BitLaws.{bit_digit}
 use Rattle.words.specs.Reduced.{Stack}
 use Rattle.pieces.specs.declared.Piece.{Piece}
 use Rattle.trees.specs.Events.{Pair}
-use Rattle.worktable.specs.Packed.{most_images}
+use Rattle.worktable.specs.Packed.{most_images, RowOf}
 use Rattle.pairs.specs.Turns.{PairNoted, was_crowded, stands, finds_no_room, goes_behind}
 use Rattle.pairs.specs.Turns.{FormsNoted, forms_none, forms_other, forms_more}
 use Rattle.pairs.specs.declared.Tally.{Tally}
@@ -31,6 +31,10 @@ pair_room lore p t found r t' h (was_crowded f) = h
 pair_room lore p t found r t' h (stands row q f) = h
 pair_room lore p t found r t' h (finds_no_room row q f l) = h
 pair_room lore p t found r t' h (goes_behind row u q f l a) = omega arith
+
+-- the row packs some nonterminal with the form
+abbrev pub Packs : List ℕ → Stack Piece → Piece → Type 0
+Packs row s c = (y : ℕ) × RowOf row y s c
 
 -- ---- the marks, moved down by x: as long as one is left, x is a nonterminal
 

@@ -14,14 +14,13 @@ use Rattle.std.specs.Result.{is_err}
 use Rattle.words.specs.Reduced.{Stack, tags}
 use Rattle.pieces.specs.declared.Piece.{Piece}
 use Rattle.pieces.specs.Pieces.{piece_at}
-use Rattle.form.specs.Held.{tag_count, summary_of, form_of, last_of}
+use Rattle.form.specs.Held.{tag_count}
 use Rattle.form.specs.Endings.{ending_of}
 use Rattle.form.specs.declared.Counts.{Counts}
 use Rattle.form.specs.declared.Flaw.{Flaw}
-use Rattle.form.proofs.HeldLaws.{tags_held}
 use Rattle.trees.specs.Events.{Pair}
 use Rattle.rows.specs.Tables.{rows_of, table_of, among}
-use Rattle.worktable.specs.Packed.{row_width, most_images, RowOf}
+use Rattle.worktable.specs.Packed.{row_width, most_images, PairRow}
 use Rattle.worktable.proofs.RowLaws.{row_length}
 use Rattle.pairs.specs.Turns.{invalid_form, PairNoted, was_crowded, stands, finds_no_room, goes_behind}
 use Rattle.pairs.specs.declared.Tally.{Tally}
@@ -43,15 +42,7 @@ module _ (lore : List ℕ) (x : ℕ) (c : Counts) (values : List ℕ) where
 
 -- ---- a form
 
-module _ (lore names values : List ℕ) (x : ℕ) (c : Counts) (t : List ℕ) (found : Tally) (invalid : Bool)
-    (told : (form : Stack Piece) → tags form ≡ tag_count c
-    → invalid ≡ invalid_form lore (record { of = x; form = form; last = piece_at values (tag_count c) })) where
-  abbrev noted : Pair Piece
-  noted = record { of = x; form = form_of (summary_of c names values); last = last_of (summary_of c names values) }
-
-  invalid_is : invalid ≡ invalid_form lore noted
-  invalid_is = told noted.form (tags_held c.ends (tag_count c) names values)
-
+module _ (lore : List ℕ) (noted : Pair Piece) (t : List ℕ) (found : Tally) (invalid : Bool) (invalid_is : invalid ≡ invalid_form lore noted) where
   -- so many rows, and the notes with this one on crowding
   abbrev tally : ℕ → Bool → Tally
   tally n crowded =
@@ -67,10 +58,10 @@ module _ (lore names values : List ℕ) (x : ℕ) (c : Counts) (t : List ℕ) (f
         notes = record { invalid = found.notes.invalid || invalid_form lore noted; deep = found.notes.deep; crowded = b };
       }) t) (sym f) (was_crowded f))
 
-  module _ (stood : Bool) (row : List ℕ) (packs : RowOf row x noted.form noted.last)
+  module _ (stood : Bool) (row : List ℕ) (packs : PairRow row noted)
       (looked : stood ≡ among row (rows_of (length row) found.rows t)) where
     wide : length row ≡ row_width
-    wide = row_length row x noted.form noted.last packs
+    wide = row_length row noted.of noted.form noted.last packs
 
     found_among : (b : Bool) → stood ≡ b → among row (rows_of row_width found.rows t) ≡ b
     found_among b f = ap (λ (w : ℕ). among row (rows_of w found.rows t)) (sym wide) ∙ sym looked ∙ f

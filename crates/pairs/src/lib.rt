@@ -188,24 +188,21 @@ fn row_of(
     worktable::pack(x, c, names, values)
 }
 
-// A form of x: its row goes behind the others, unless it stands among them or there is no room.
+// A form of x, and its row: the row goes behind the others, unless it stands among them or there is no room.
 fn note_form(
     lore: &lore::Lore,
     x: u8,
     c: form::Counts,
-    names: &[u8; pieces::TAGS],
     values: &[u64; pieces::PIECES],
+    row: &[u64; worktable::ROW],
     table: &mut [u64],
     found: Tally,
 ) -> Tally
-    requires holds { Holds (summary_of c names.now values.now) }
+    requires room { tag_count c ≤ most_tags }
     requires table_long_in_bounds { table_long ≤ length table.old }
     requires rows_le_most_images { found.rows ≤ most_images }
-    ensures { PairNoted lore.now.entries (record {
-      of = x;
-      form = form_of (summary_of c names.now values.now);
-      last = last_of (summary_of c names.now values.now);
-    }) table.old found result table.new }
+    ensures { (s : Stack Piece) → tags s ≡ tag_count c → RowOf row.now x s (piece_at values.now (tag_count c))
+        → PairNoted lore.now.entries (record { of = x; form = s; last = piece_at values.now (tag_count c) }) table.old found result table.new }
 {
     let rows = found.rows;
     let mut notes = found.notes;
@@ -213,22 +210,22 @@ fn note_form(
     if notes.crowded {
         return Tally { rows, notes };
     }
-    let row = row_of(x, c, names, values);
-    if rows::holds(table, rows, &row) {
+    if rows::holds(table, rows, row) {
         return Tally { rows, notes };
     }
     if worktable::IMAGES <= rows {
         notes.crowded = true;
         return Tally { rows, notes };
     }
-    rows::add(table, rows, &row);
+    rows::add(table, rows, row);
     Tally {
         rows: rows + 1,
         notes,
     }
 }
 
-// A form of each marked nonterminal, in turn. No turn is made once no mark is left, for mostly there is one.
+// A form of each marked nonterminal, in turn. Their rows differ in the nonterminal alone, so the form is packed once for all of them. No
+// turn is made once no mark is left, for mostly there is one.
 fn note_forms(
     lore: &lore::Lore,
     marks: u64,
@@ -245,13 +242,15 @@ fn note_forms(
         (last_of (summary_of c names.now values.now)) table.old found 64 result table.new }
 {
     let mut tally = found;
+    let mut row = row_of(0, c, names, values);
     for x in 0..64u8 {
         let rest = marks >> x;
         if rest == 0 {
             return tally;
         }
         if rest % 2 == 1 {
-            tally = note_form(lore, x, c, names, values, table, tally);
+            worktable::put_nonterminal(&mut row, x);
+            tally = note_form(lore, x, c, values, &row, table, tally);
         }
     }
     tally

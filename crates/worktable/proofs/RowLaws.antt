@@ -2,12 +2,14 @@
 -- one nonterminal, form and last piece; and these have one row, since a form has one way to stand in the arrays. Assumes nothing.
 use mathlib.Core.Path.{◌≡◌, sym, ap, ◌∙◌}
 use mathlib.Core.List.{List}
-use Prim.Native.Nat.{ℕ}
-use lib.ListN.{length}
+use Prim.Native.Nat.{ℕ, ◌+◌, ◌*◌, ◌/◌, ◌<◌}
+use native.Mathlib.Omega.{arith}
+use lib.ListN.{length, get_or, set}
 use Rattle.words.specs.Reduced.{Stack}
 use Rattle.pieces.specs.declared.Piece.{Piece}
 use Rattle.form.specs.Held.{form_of, last_of, Holds}
 use Rattle.form.proofs.PackLaws.{pack_unique}
+use Rattle.form.specs.declared.Summary.{Summary}
 use Rattle.worktable.specs.Packed.{row_width, packed, nonterminal_in, summary_in, RowOf}
 use Rattle.worktable.proofs.PackedLaws.{packed_length, packed_nonterminal, packed_summary}
 
@@ -30,6 +32,28 @@ module _ (row : List ℕ) (x : ℕ) (form : Stack Piece) (last : Piece) (r : Row
 
   pub row_last : last_of (summary_in row) ≡ last
   row_last = ap last_of row_summary ∙ r.last_is
+
+-- ---- a row of another nonterminal with the same form
+
+first_renamed : (x y ends starts : ℕ) → y < 256 → (y + 256 * ends + 65536 * starts) / 256 * 256 + x ≡ x + 256 * ends + 65536 * starts
+first_renamed x y ends starts h = omega arith
+
+packed_renamed : (x y : ℕ) (s : Summary) → y < 256 → set (packed y s) 0 (get_or (packed y s) 0 0 / 256 * 256 + x) ≡ packed x s
+unfolding packed
+packed_renamed x y s h = rw (first_renamed x y s.counts.ends s.counts.starts h)
+
+pub row_renamed : (row : List ℕ) (x y : ℕ) (form : Stack Piece) (last : Piece) → x < 256 → RowOf row y form last
+    → RowOf (set row 0 (get_or row 0 0 / 256 * 256 + x)) x form last
+row_renamed row x y form last h r =
+    record {
+      summary = r.summary;
+      bytes = r.bytes;
+      small = h;
+      holds = r.holds;
+      row_is = rw r.row_is (packed_renamed x y r.summary r.small);
+      form_is = r.form_is;
+      last_is = r.last_is;
+    }
 
 -- ---- one row has one form
 
