@@ -1,8 +1,9 @@
 -- A form of each marked nonterminal (specs/Turns.antt), in the words in which `note_forms` has it, for `search forms_laws`: none is noted
 -- before 0, one that is not marked is passed over, one that is marked is noted, and a form leaves at most 256 rows. Where the marks moved
--- down by x are 0, nothing from x on is marked; where they are not, x is a nonterminal (`marks_left`). Assumes nothing.
-use mathlib.Core.Path.{◌≡◌, ◌∙◌}
-use mathlib.Core.Bool.{false}
+-- down by x are 0, nothing from x on is marked; where they are not, x is a nonterminal (`marks_left`). Where a form found no room before, only
+-- the start's form changes a note (`crowded_forms`). Assumes nothing.
+use mathlib.Core.Path.{◌≡◌, refl, ◌∙◌}
+use mathlib.Core.Bool.{Bool, true, false, ◌&&◌, ◌||◌, or-false}
 use mathlib.Core.List.{List}
 use Prim.Native.Nat.{ℕ, zero, suc, ◌+◌, ◌-◌, ◌/◌, ◌%◌, ◌^◌, ◌≤◌, ◌<◌}
 use native.Mathlib.Nat.{add-zero, add-suc, zero-div, div-eq_of_lt, lt_of_lt_of_le, lt_of_not-le}
@@ -19,9 +20,10 @@ use Rattle.words.specs.Reduced.{Stack}
 use Rattle.pieces.specs.declared.Piece.{Piece}
 use Rattle.trees.specs.Events.{Pair}
 use Rattle.worktable.specs.Packed.{most_images, RowOf}
-use Rattle.pairs.specs.Turns.{PairNoted, was_crowded, stands, finds_no_room, goes_behind}
+use Rattle.pairs.specs.Turns.{invalid_form, PairNoted, was_crowded, stands, finds_no_room, goes_behind}
 use Rattle.pairs.specs.Turns.{FormsNoted, forms_none, forms_other, forms_more}
 use Rattle.pairs.specs.declared.Tally.{Tally}
+use Rattle.pairs.proofs.NoteLaws.{note_crowded}
 
 -- ---- one form
 
@@ -75,5 +77,37 @@ module _ (lore : List ℕ) (marks : ℕ) (s : Stack Piece) (c : Piece) (t : List
     forms_end none h =
         let e : x + (64 - x) ≡ 64 = omega arith in
         rw e at (forms_past none (64 - x))
+
+-- ---- where a form found no room before: no row goes behind the others, and only the start's form can be an invalid page
+
+module _ (lore : List ℕ) (marks : ℕ) (s : Stack Piece) (c : Piece) (t : List ℕ) (found : Tally) (full : found.notes.crowded ≡ true) (invalid : Bool)
+    (invalid_is : invalid ≡ invalid_form lore (record { of = 0; form = s; last = c })) where
+  -- the tally where the start is marked or not
+  abbrev pub noted_where : Bool → Tally
+  noted_where b =
+      record {
+        rows = found.rows;
+        notes = record { invalid = found.notes.invalid || (b && invalid); deep = found.notes.deep; crowded = found.notes.crowded };
+      }
+
+  crowded_first : (b : Bool) → bit marks 0 ≡ b → FormsNoted lore marks s c t found 1 (noted_where b) t
+  crowded_first true e = forms_more forms_none e (note_crowded lore (record { of = 0; form = s; last = c }) t found invalid invalid_is full)
+  crowded_first false e = rw (or-false found.notes.invalid) (forms_other forms_none e)
+
+  other_valid_form : (n : ℕ) → false ≡ invalid_form lore (record { of = suc n; form = s; last = c })
+  unfolding invalid_form
+  other_valid_form n = rw (ne_eqb (suc n) 0 (λ z. omega (arith, z)))
+
+  crowded_more : (n : ℕ) (b : Bool) → bit marks (suc n) ≡ b → FormsNoted lore marks s c t found (suc n) (noted_where (bit marks 0)) t
+      → FormsNoted lore marks s c t found (suc (suc n)) (noted_where (bit marks 0)) t
+  crowded_more n false e before = forms_other before e
+  crowded_more n true e before =
+      let noted =
+      note_crowded lore (record { of = suc n; form = s; last = c }) t (noted_where (bit marks 0)) false (other_valid_form n) full in
+      forms_more before e (rw (or-false (found.notes.invalid || (bit marks 0 && invalid))) at noted)
+
+  pub crowded_forms : (n : ℕ) → FormsNoted lore marks s c t found (suc n) (noted_where (bit marks 0)) t
+  crowded_forms zero = crowded_first (bit marks 0) refl
+  crowded_forms (suc n) = crowded_more n (bit marks (suc n)) refl (crowded_forms n)
 
 pub ruleset forms_laws = (pair_room, forms_start, forms_skip, forms_next, forms_end, rules)

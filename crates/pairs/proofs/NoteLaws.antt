@@ -1,13 +1,12 @@
--- What is noted of a form (specs/Turns.antt), in the words in which `invalid_form` and `note_form` have it (`search notes`): only a form of
--- the start can be an invalid page, and its ending says so; the row of a form is not looked for where one found no room before, stands among
--- the others, finds no room, or goes behind them. Assumes nothing.
+-- What is noted of a form (specs/Turns.antt), in the words in which `invalid_form` and `note_form` have it: only a form of the start can be
+-- an invalid page, and its ending says so; the row of a form is not looked for where one found no room before, stands among the others, finds
+-- no room, or goes behind them. Assumes nothing.
 use mathlib.Core.Path.{◌≡◌, sym, ap, subst, ◌∙◌}
 use mathlib.Core.Bool.{Bool, true, false, ◌||◌}
 use mathlib.Core.List.{List, [], ◌∷◌, ◌++◌}
 use Prim.Native.Nat.{ℕ, ◌+◌, ◌≤◌, ◌<◌}
 use lib.Dec.{eqb}
 use lib.ListN.{length}
-use borrow.Author.Rules.{rules}
 use borrow.Author.Tests.{eq-eqb, ne_eqb}
 use Rattle.std.specs.Prelude.{Result}
 use Rattle.std.specs.Result.{is_err}
@@ -79,5 +78,3 @@ module _ (lore : List ℕ) (noted : Pair Piece) (t : List ℕ) (found : Tally) (
         rw invalid_is
         (goes_behind row t' packs (found_among false f) l
         (a ∙ ap (λ (w : ℕ). table_of (rows_of w found.rows t ++ (row ∷ [])) t) wide))
-
-pub ruleset notes = (note_crowded, note_stands, note_no_room, note_behind, rules)

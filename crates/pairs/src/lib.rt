@@ -2,7 +2,7 @@
 // the left side of each rule. What is new goes behind the rows that are there.
 #![tactic(auto)]
 
-ghost use Rattle.std.specs.Prelude.{◌≡◌, ◌+◌, ◌*◌, ◌≤◌, eqb, length, Some};
+ghost use Rattle.std.specs.Prelude.{◌≡◌, true, List, ℕ, ◌+◌, ◌*◌, ◌≤◌, eqb, length, Some};
 ghost use Rattle.words.specs.Reduced.{Stack, tags};
 ghost use Rattle.hedge.specs.Schema.{most_states};
 ghost use Rattle.pieces.specs.declared.Piece.{Piece};
@@ -224,6 +224,25 @@ fn note_form(
     }
 }
 
+// The tally after a form of every marked nonterminal where one found no room before: no row is looked for any more, and only a form of the
+// start can be an invalid page.
+fn noted_crowded(
+    lore: &lore::Lore,
+    marks: u64,
+    c: form::Counts,
+    values: &[u64; pieces::PIECES],
+    found: Tally,
+) -> Tally
+    requires room { tag_count c ≤ most_tags }
+    requires crowded { found.notes.crowded ≡ true }
+    ensures { (s : Stack Piece) (t : List ℕ) → tags s ≡ tag_count c
+        → FormsNoted lore.now.entries marks s (piece_at values.now (tag_count c)) t found 64 result t }
+{
+    let mut tally = found;
+    tally.notes.invalid |= useful::marked(marks, 0) & invalid_form(lore, 0, c, values);
+    tally
+}
+
 // A form of each marked nonterminal, in turn. Their rows differ in the nonterminal alone, so the form is packed once for all of them. No
 // turn is made once no mark is left, for mostly there is one.
 fn note_forms(
@@ -241,6 +260,9 @@ fn note_forms(
     ensures { FormsNoted lore.now.entries marks (form_of (summary_of c names.now values.now))
         (last_of (summary_of c names.now values.now)) table.old found 64 result table.new }
 {
+    if found.notes.crowded {
+        return noted_crowded(lore, marks, c, values, found);
+    }
     let mut tally = found;
     let mut row = row_of(0, c, names, values);
     for x in 0..64u8 {

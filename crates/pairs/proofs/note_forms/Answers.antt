@@ -7,6 +7,9 @@ use Rattle.pairs.proofs.FormsLaws.{forms_laws, forms_next}
 use Rattle.pairs.proofs.note_forms.Goals as goal
 use Rattle.pairs.proofs.note_forms.Goals.{then-rest-eq1, else-rest-eq1}
 
+pub returns-then-found : goal.returns-then-found
+returns-then-found c = c.noted_crowded.ensures _ _ (tags_held c.args.c.ends (tag_count c.args.c) c.args.names.now c.args.values.now)
+
 pub loop-x-init : goal.loop-x-init
 loop-x-init c = search forms_laws
 
