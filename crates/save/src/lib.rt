@@ -54,11 +54,14 @@ fn put_head(out: &mut [u8], shape: template::Shape)
 }
 
 // The bytes of a body, at the start of a lent part.
+// Kept: byte by byte. The library's copy would have the archive for C need `memmove` from outside, which a loop does not.
 fn put_body(out: &mut [u8], body: &[u8])
     requires { length body.now ≤ length out.old }
     ensures { out.new ≡ over body.now out.old }
 {
-    out[..body.len()].copy_from_slice(body);
+    for (i, byte) in body.iter().enumerate() {
+        out[i] = *byte;
+    }
 }
 
 // The file of a shape and three lists, at the start of the lent bytes; those behind it stay.
