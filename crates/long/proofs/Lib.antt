@@ -7,6 +7,7 @@ pub mod ListedLaws
 pub mod CountLaws
 pub mod BelowLaws
 pub mod HoldLaws
+mod InsertLaws
 pub mod DistinctLaws
 pub mod ExactLaws
 pub mod SameLaws
