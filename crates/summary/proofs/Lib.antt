@@ -2,6 +2,7 @@ pub mod FitLaws
 pub mod PackingLaws
 pub mod SignedLaws
 pub mod ShapeLaws
+pub mod ReplyLaws
 pub mod FragmentLaws
 pub mod JoinedLaws
 pub mod UniqueLaws

@@ -34,6 +34,11 @@ abbrev pub reply_of : {E : Type 0} → Result Summary E → Reply E
 reply_of (Ok s) = record { answer = Ok tt; summary = s }
 reply_of (Err e) = record { answer = Err e; summary = zeros }
 
+-- what was found, from the answer and from where the summary stands
+abbrev pub found_in : {E : Type 0} → Result Unit E → Summary → Result Summary E
+found_in (Ok _) s = Ok s
+found_in (Err e) s = Err e
+
 abbrev pub stopped : Stop → FragmentRefusal
 stopped (stop.NotATag p) = fragment.NotATag p
 stopped (stop.Mismatch p) = fragment.Mismatch p

@@ -11,7 +11,7 @@ ghost use Rattle.summary.specs.declared.FragmentRefusal.TheVariants as fragment;
 ghost use Rattle.summary.specs.declared.JoinRefusal.TheVariants as joined;
 ghost use Rattle.summary.specs.declared.DepthRefusal.TheVariants as depth;
 ghost use Rattle.summary.specs.Packing.{IsSummary, every, name_fits, piece_fits};
-ghost use Rattle.summary.specs.Replies.{stopped, clashed, reply_of};
+ghost use Rattle.summary.specs.Replies.{stopped, clashed, reply_of, found_in};
 ghost use Rattle.summary.specs.Fragments.{FragmentSays, FragmentFinds};
 ghost use Rattle.summary.specs.Joins.{SummaryUnder, JoinSays, DepthSays};
 ghost use Rattle.summary.specs.Answers.{fragment_answer, fragment_number, join_answer, join_number, depth_answer, depth_number, net_depth};
@@ -108,19 +108,17 @@ const ZEROS: form::Summary = form::Summary {
     values: [0u64; pieces::PIECES],
 };
 
-// What was found, as a reply.
-fn reply_of<E>(found: Result<form::Summary, E>) -> Reply<E>
-    ensures { result ≡ reply_of found }
+// The answer as a reply, with the summary that was written, or zeros where it was refused.
+// Kept: the zeros are written over the summary, since a `match` that chooses one of two summaries costs two copies more.
+fn reply_of<E>(answer: Result<(), E>, summary: &mut form::Summary) -> Reply<E>
+    ensures { result ≡ reply_of (found_in answer summary.old) }
 {
-    match found {
-        Ok(summary) => Reply {
-            answer: Ok(()),
-            summary: summary,
-        },
-        Err(refusal) => Reply {
-            answer: Err(refusal),
-            summary: ZEROS,
-        },
+    if answer.is_err() {
+        *summary = ZEROS;
+    }
+    Reply {
+        answer: answer,
+        summary: *summary,
     }
 }
 
@@ -139,22 +137,29 @@ pub fn summarise(lore: &lore::Lore, known: u8, bytes: &[u8]) -> Result<form::Sum
     })
 }
 
-// The summary of a fragment under the file, or the first reason why there is none.
-fn fragment_under(file: &[u8], bytes: &[u8]) -> Result<form::Summary, FragmentRefusal>
-    ensures { FragmentSays file.now bytes.now (reply_of result) }
+// Writes the summary of a fragment under the file, or answers the first reason why there is none. Here and in `join_under` a summary is
+// written where it is wanted, since one that goes by value through each `Result` is copied each time.
+fn fragment_under(
+    file: &[u8],
+    bytes: &[u8],
+    summary: &mut form::Summary,
+) -> Result<(), FragmentRefusal>
+    ensures { FragmentSays file.now bytes.now (reply_of (found_in result summary.new)) }
 {
     let sound = Sound::read(file)?;
     let mut lore = lore::Lore::untaught();
     schema::teach(sound, &mut lore);
-    let s = summarise(&lore, sound.shape.names, bytes)?;
-    Ok(s)
+    *summary = summarise(&lore, sound.shape.names, bytes)?;
+    Ok(())
 }
 
 // The summary of a fragment: 7; 10, 11 or 12 where the reading ends; else the reduced form.
 pub fn fragment(file: &[u8], bytes: &[u8]) -> FragmentReply
     ensures { FragmentSays file.now bytes.now result }
 {
-    reply_of(fragment_under(file, bytes))
+    let mut summary = ZEROS;
+    let found = fragment_under(file, bytes, &mut summary);
+    reply_of(found, &mut summary)
 }
 
 // The names in use are below the number of names, the others 0.
@@ -192,9 +197,9 @@ fn pieces_fit(values: &[u64; pieces::PIECES], n: usize, states: usize) -> bool
 }
 
 // Is the struct a summary, with so many names and states?
-fn is_summary(s: form::Summary, known: u8, states: usize) -> bool
+fn is_summary(s: &form::Summary, known: u8, states: usize) -> bool
     requires { states ≤ most_states }
-    ensures { (result ≡ true) ↔ IsSummary known states s }
+    ensures { (result ≡ true) ↔ IsSummary known states s.now }
 {
     let c = s.counts;
     if pieces::TAGS < c.ends {
@@ -207,43 +212,38 @@ fn is_summary(s: form::Summary, known: u8, states: usize) -> bool
     names_fit(&s.names, n, known) && pieces_fit(&s.values, n, states)
 }
 
-// Joins two summaries under a sound file.
+// Joins two summaries under a sound file, in place of the left one. Nothing is said of what a refusal leaves there.
 fn join_summaries(
     sound: Sound<'_>,
-    left: form::Summary,
-    right: form::Summary,
-) -> Result<form::Summary, JoinRefusal>
-    requires summary_under { SummaryUnder sound.file.now left }
-    requires summary_under_2 { SummaryUnder sound.file.now right }
-    ensures { JoinSays sound.entry.file.now left right (reply_of result) }
+    left: &mut form::Summary,
+    right: &form::Summary,
+) -> Result<(), JoinRefusal>
+    requires summary_under { SummaryUnder sound.file.now left.old }
+    requires summary_under_2 { SummaryUnder sound.file.now right.now }
+    ensures { JoinSays sound.entry.file.now left.old right.now (reply_of (found_in result left.new)) }
 {
     let mut lore = lore::Lore::untaught();
     schema::teach(sound, &mut lore);
-    let mut names = left.names;
-    let mut values = left.values;
     let counts = form::then_form(
         &lore,
-        &mut names,
-        &mut values,
+        &mut left.names,
+        &mut left.values,
         left.counts,
         &right.names,
         &right.values,
         right.counts,
     )?;
-    Ok(form::Summary {
-        counts: counts,
-        names: names,
-        values: values,
-    })
+    left.counts = counts;
+    Ok(())
 }
 
-// The joined summary under the file, or the first reason why there is none.
+// Joins two summaries under the file, in place of the left one, or answers the first reason why there is no joined summary.
 fn join_under(
     file: &[u8],
-    left: form::Summary,
-    right: form::Summary,
-) -> Result<form::Summary, JoinRefusal>
-    ensures { JoinSays file.now left right (reply_of result) }
+    left: &mut form::Summary,
+    right: &form::Summary,
+) -> Result<(), JoinRefusal>
+    ensures { JoinSays file.now left.old right.now (reply_of (found_in result left.new)) }
 {
     let sound = Sound::read(file)?;
     let shape = sound.shape;
@@ -260,7 +260,9 @@ fn join_under(
 pub fn join(file: &[u8], left: form::Summary, right: form::Summary) -> JoinReply
     ensures { JoinSays file.now left right result }
 {
-    reply_of(join_under(file, left, right))
+    let mut summary = left;
+    let found = join_under(file, &mut summary, &right);
+    reply_of(found, &mut summary)
 }
 
 // Starts minus ends.
@@ -277,7 +279,7 @@ pub fn net_depth(file: &[u8], s: form::Summary) -> Result<i32, DepthRefusal>
     ensures { DepthSays file.now s result }
 {
     let shape = template::read(file)?;
-    if !is_summary(s, shape.names, usize::from(shape.states)) {
+    if !is_summary(&s, shape.names, usize::from(shape.states)) {
         return Err(DepthRefusal::NoSummary);
     }
     let c = s.counts;

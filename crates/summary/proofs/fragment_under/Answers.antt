@@ -12,17 +12,17 @@ returns-in_err-sound c =
     let p = err_from_is_err_and c.from_residual.result c.from_residual.ensures.1 in
     rw (p.1, p.2) (says_bad _ c.args.bytes.now _ c.in_err-sound.ensures.bad)
 
-pub returns-in_err-s : goal.returns-in_err-s
-returns-in_err-s c =
-    let p = err_from_is_err_and c.from_residual-in_err-s.result c.from_residual-in_err-s.ensures.1 in
+pub returns-in_err-summary : goal.returns-in_err-summary
+returns-in_err-summary c =
+    let p = err_from_is_err_and c.from_residual-in_err-summary.result c.from_residual-in_err-summary.ensures.1 in
     let says =
-    rw c.in_err-s.was at
+    rw c.in_err-summary.was at
     (says_found _ _ c.in_ok-sound.sound.is_read _ c.teach.ensures c.args.bytes.now c.summarise.result c.summarise.ensures) in
     rw (p.1, p.2)
-    (subst (λ (f : List ℕ). FragmentSays f c.args.bytes.now (reply_of (Err (stopped c.in_err-s.field-0.0)))) c.in_ok-sound.ensures.sound says)
+    (subst (λ (f : List ℕ). FragmentSays f c.args.bytes.now (reply_of (Err (stopped c.in_err-summary.field-0.0)))) c.in_ok-sound.ensures.sound says)
 
 pub returns : goal.returns
 returns c =
     rw (← c.in_ok-sound.ensures.sound)
-    (rw c.in_ok-s.was at
+    (rw c.in_ok-summary.was at
     (says_found _ _ c.in_ok-sound.sound.is_read _ c.teach.ensures c.args.bytes.now c.summarise.result c.summarise.ensures))

@@ -19,14 +19,14 @@ returns-then-c c = search answers
 
 pub returns-else-names_fit : goal.returns-else-names_fit
 returns-else-names_fit c =
-    let room : length c.args.s.names ≡ most_tags = search rules in
-    let few : tag_count c.args.s.counts ≤ most_tags = omega arith in
-    names_fail _ _ c.args.s room few c.names_fit.result c.names_fit.ensures c.if-names_fit.false
+    let room : length c.args.s.now.names ≡ most_tags = search rules in
+    let few : tag_count c.args.s.now.counts ≤ most_tags = omega arith in
+    names_fail _ _ c.args.s.now room few c.names_fit.result c.names_fit.ensures c.if-names_fit.false
 
 pub returns-then-names_fit : goal.returns-then-names_fit
 returns-then-names_fit c =
-    let names-room : length c.args.s.names ≡ most_tags = search rules in
-    let values-room : length c.args.s.values ≡ pieces_long = search rules in
-    let few : tag_count c.args.s.counts ≤ most_tags = omega arith in
-    summary_pass _ _ c.args.s names-room few values-room c.requires c.names_fit.result c.pieces_fit.result c.names_fit.ensures
+    let names-room : length c.args.s.now.names ≡ most_tags = search rules in
+    let values-room : length c.args.s.now.values ≡ pieces_long = search rules in
+    let few : tag_count c.args.s.now.counts ≤ most_tags = omega arith in
+    summary_pass _ _ c.args.s.now names-room few values-room c.requires c.names_fit.result c.pieces_fit.result c.names_fit.ensures
     c.if-names_fit.true c.pieces_fit.ensures

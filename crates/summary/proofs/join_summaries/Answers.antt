@@ -10,10 +10,10 @@ use Rattle.summary.proofs.join_summaries.Goals as goal
 
 pub then_form-requires : goal.then_form-requires
 then_form-requires c =
-    let names-room : length c.args.left.names ≡ most_tags = search rules in
-    let values-room : length c.args.left.values ≡ pieces_long = search rules in
+    let names-room : length c.args.left.now.names ≡ most_tags = search rules in
+    let values-room : length c.args.left.now.values ≡ pieces_long = search rules in
     record {
-      holds = holds_summary c.args.sound.file.now c.args.left names-room values-room c.requires.summary_under;
+      holds = holds_summary c.args.sound.file.now c.args.left.now names-room values-room c.requires.summary_under;
       more_bound = c.requires.summary_under_2.few;
     }
 
