@@ -29,8 +29,8 @@
  *   Threads.  During a call nobody else writes what the call is lent, and nobody else reads what it writes. Any number of threads may call
  *             at once, each with a worktable, row, output and numbers of its own; a file or page that all only read may be shared.
  *   Stack.    UJTHANOR_STACK bytes of the caller's stack are free. No function of the archive calls itself, so the need does not grow with
- *             what is lent. On a painted stack (tests/c_stack.c) the deepest call, a split, used 10,640 bytes, and a check 5,824; a
- *             check that was the first call of all used 8,920, since the dynamic linker has yet to look up memcpy and memset then, which are
+ *             what is lent. On a painted stack (tests/c_stack.c) the deepest call, a check, used 6,098 bytes, and a split 2,578; a
+ *             check that was the first call of all used 9,048, since the dynamic linker has yet to look up memcpy and memset then, which are
  *             all that the archive calls outside itself.
  *
  * What is proved, and what is trusted. That each call answers as said here is proved of its source (crates/ujthanor_c, ujthanor, demands).
