@@ -2,11 +2,12 @@
 -- the code has at each turn and each call: `spells` for the digits of a number, `ends` for a number and its last byte. Assumes nothing.
 use mathlib.Core.Path.{◌≡◌, refl, sym, ap, ◌∙◌, subst}
 use mathlib.Core.List.{List, [], ◌∷◌, ◌++◌, append_assoc}
-use Prim.Native.Nat.{ℕ, zero, suc, ◌+◌, ◌-◌, ◌/◌, ◌%◌, ◌≤◌, ◌<◌}
-use native.Mathlib.Nat.{zero-sub, suc-sub-suc, sub-zero, add-zero}
+use Prim.Native.Nat.{ℕ, suc, ◌+◌, ◌-◌, ◌/◌, ◌%◌, ◌≤◌, ◌<◌}
+use native.Mathlib.Nat.{add-zero}
 use native.Mathlib.Omega.{arith}
 use lib.ListN.{length, set, take, drop, replicate, length-append, length-set, length-replicate, take-append-drop}
 use lib.Seq.{take-set-le, drop-set-lt, drop-cons, get_or-set_same, take_at, drop-append-add, drop-drop, length-take-le, append_snoc}
+use Rattle.std.proofs.lemmas.List.{drop-replicate}
 use Rattle.line.specs.Decimal.{digit_zero, most_digits, digits, places, decimal}
 use Rattle.line.specs.Lines.{longest_line, space, newline, line_of, over_from, Shows}
 use Rattle.line.specs.declared.Text.{Text}
@@ -89,11 +90,6 @@ pub ruleset ends = (number_put, number_long)
 
 -- ---- the line
 
-drop_replicate : (k n : ℕ) → drop k (replicate {A = ℕ} n 0) ≡ replicate (n - k) 0
-drop_replicate zero n = rw (sub-zero)
-drop_replicate (suc k) zero = rw (zero-sub)
-drop_replicate (suc k) (suc n) = rw (suc-sub-suc) (drop_replicate k n)
-
 -- a number and the byte that ends it
 abbrev pub ended : ℕ → ℕ → List ℕ
 ended n b = decimal n ++ (b ∷ [])
@@ -104,7 +100,7 @@ ended_line a n m =
 
 over_blank : (text : List ℕ) → over_from 0 text (replicate longest_line 0) ≡ text ++ replicate (longest_line - length text) 0
 unfolding over_from
-over_blank text = let e : 0 + length text ≡ length text = omega arith in rw (e, drop_replicate (length text) longest_line)
+over_blank text = let e : 0 + length text ≡ length text = omega arith in rw (e, drop-replicate {X = ℕ} (length text) longest_line 0)
 
 module _ (a n m second third end : ℕ) (blank one two three : List ℕ) where
   pub line_shows : blank ≡ replicate longest_line 0 → one ≡ over_from 0 (ended a space) blank
